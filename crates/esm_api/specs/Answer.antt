@@ -1,5 +1,5 @@
--- The bytes of an answer over HTTP/1.1 (RFC 9112), one to a connection. The errors and their statuses are those of the
--- Lambda API Reference of 2015-03-31 (event source mappings); the messages, and which fields stand in which order, are this
+-- The bytes of an answer over HTTP/1.1 (RFC 9112); a connection gets one answer. The errors and their statuses are those
+-- of the Lambda API Reference of 2015-03-31 (event source mappings); the messages and the order of the fields are this
 -- product's own.
 use Rattle.std.specs.Prelude.{ℕ, nat_le, nat_lt, ◌&&◌, List, [], ◌++◌, length, codes, unwrap_or, if◌then◌else◌}
 use Rattle.http.specs.StatusCode.{reason_phrase}
@@ -10,7 +10,7 @@ use Rattle.esm_registry.specs.Names.{error_text}
 use Rattle.esm_api.specs.declared.refusal.Refusal.{Refusal}
 use Rattle.esm_api.specs.declared.refusal.Refusal.TheVariants as row
 
--- the phrase of a status code
+-- the reason phrase of a status code, and nothing for a code without one
 abbrev pub phrase_of : ℕ → List ℕ
 phrase_of status = if nat_le 100 status && nat_lt status 1000 then unwrap_or (reason_phrase status) [] else []
 
@@ -22,14 +22,14 @@ status_lines status =
 unfoldable pub error_line : List ℕ → List ℕ
 error_line name = codes "x-amzn-ErrorType: " ++ name ++ crlf_bytes
 
--- the lines up to the body, which has so many bytes
+-- the last header lines and the empty line, before a body of `count` bytes
 unfoldable pub last_lines : ℕ → List ℕ
 last_lines count =
     codes "Content-Length: " ++ decimal count ++ crlf_bytes
     ++ codes "Connection: close" ++ crlf_bytes
     ++ crlf_bytes
 
--- the body of a refusal; the message is of plain characters
+-- the body of a refusal; the messages need no escape in JSON
 unfoldable pub refusal_body : List ℕ → List ℕ
 refusal_body message = codes "{\"Type\":\"User\",\"Message\":\"" ++ message ++ codes "\"}"
 
@@ -40,7 +40,7 @@ abbrev pub refusal_text : ℕ → List ℕ → List ℕ → List ℕ
 refusal_text status error message =
     status_lines status ++ error_line error ++ last_lines (length (refusal_body message)) ++ refusal_body message
 
--- ---- the rows that come before a command
+-- ---- the rows that are judged before a command
 
 abbrev pub status_of : Refusal → ℕ
 status_of row.Head = 400
@@ -53,7 +53,7 @@ status_of row.Body = 413
 status_of row.Json = 400
 status_of row.Mapping = 404
 
--- the names are those that the registry answers with, but that of the row `host`
+-- the names are those of the registry's errors, except that of the row `host`
 abbrev pub error_of : Refusal → List ℕ
 error_of row.Head = error_text error.InvalidRequestContentException
 error_of row.Host = codes "AccessDeniedException"

@@ -14,13 +14,13 @@ use Rattle.esm_api.specs.declared.refusal.Refusal.TheVariants as row
 use Rattle.esm_api.specs.Head.{BeginsWith, HasNoHead, BreaksForm, HasBadHead, AwaitsHead, line_count}
 use Rattle.esm_api.specs.Plan.{plan_of}
 
--- what the values of the headers with one name come to
+-- what the values of the headers with one name are read as
 abbrev pub IsNamed : List ℕ → List (List ℕ) → Named → Type 0
 IsNamed bytes values named.None = values ≡ []
 IsNamed bytes values (named.One span) = values ≡ span_bytes bytes span ∷ []
 IsNamed bytes values named.Several = 1 < length values
 
--- the value of the one lies in the first n bytes
+-- where there is one value, it is within the first n bytes
 abbrev pub IsNamedWithin : ℕ → Named → Type 0
 IsNamedWithin n named.None = Unit {0}
 IsNamedWithin n (named.One span) = IsWithin n span
@@ -34,13 +34,13 @@ EndsLine bytes = (front : List ℕ) × (bytes ≡ front ++ line_feed ∷ [])
 abbrev pub HasNoLine : List ℕ → Type 0
 HasNoLine bytes = (k : ℕ) → k < length bytes → slice_index bytes k ≢ line_feed
 
--- no head stands at the front of the bytes yet; how many bytes they are is not looked at
+-- the bytes do not begin with a whole head yet; their number is not checked
 pub record HasNoneYet (bytes : List ℕ) : Type 0 where
   pub none : HasNoHead bytes
   pub formed : ¬ (BreaksForm bytes)
   pub few : line_count bytes < MAX_HEADER_LINES + 2
 
--- what the head of the bytes says: a bad one, or one that is this long and makes this plan
+-- what the bytes are read as: a bad head, or a head with this length and this plan
 abbrev pub IsPlanned : List ℕ → Head → Type 0
 IsPlanned bytes head =
     (HasBadHead bytes × (head.plan ≡ Refuse row.Head))
@@ -51,12 +51,12 @@ abbrev pub FindsHead : List ℕ → Option Head → Type 0
 FindsHead bytes None = AwaitsHead bytes
 FindsHead bytes (Some head) = IsPlanned bytes head × (head.len ≤ length bytes)
 
--- the same, but nothing is found also in bytes that are too many for a head
+-- the same without the check of the number of bytes: nothing is found in too many bytes either
 abbrev pub LooksForHead : List ℕ → Option Head → Type 0
 LooksForHead bytes None = HasNoneYet bytes
 LooksForHead bytes (Some head) = IsPlanned bytes head × (head.len ≤ length bytes)
 
--- what the spans of a head say, whichever head they are of
+-- the head has the length of the spans, and the plan of whichever head they are the spans of
 abbrev pub SaysAt : List ℕ → List HeaderSpan → RequestSpans → Head → Type 0
 SaysAt bytes lines spans head =
     (head.len ≡ spans.len) × ((tree : RequestHead) → IsRequestAt bytes lines spans tree → head.plan ≡ plan_of tree)

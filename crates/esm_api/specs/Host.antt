@@ -1,6 +1,7 @@
--- Which requests come from elsewhere: by an `Origin` a browser tells that a web page asks (RFC 6454, section 7), and by its
--- `Host` a request names the machine that it was meant for (RFC 9110, section 7.2), as where a name was made to lead here.
--- Which names are this machine's, and that all others are refused, are this product's own.
+-- Which requests come from elsewhere. A browser adds an `Origin` to a request that a web page makes (RFC 6454, section
+-- 7). A `Host` names the machine that a request was meant for (RFC 9110, section 7.2); it is another one where a foreign
+-- name was made to resolve to this machine. Which names are this machine's, and that all others are refused, are this
+-- product's own.
 use Rattle.std.specs.Prelude.{ℕ, not, nat_lt, nat_le, ◌&&◌, ◌||◌, ◌==◌, Bool, true, List, [], ◌∷◌, length, take, drop, codes}
 use Rattle.std.specs.Char.{is_ascii_digit}
 use Rattle.std.specs.List.{list_all, list_any}
@@ -13,12 +14,12 @@ use Rattle.esm_api.specs.declared.host.TheConstants.{MAX_PORT_DIGITS}
 abbrev pub is_port : List ℕ → Bool
 is_port text = nat_lt 0 (length text) && (nat_le (length text) MAX_PORT_DIGITS && list_all is_ascii_digit text)
 
--- nothing, or a colon and a port
+-- empty, or a colon and a port
 abbrev pub is_port_part : List ℕ → Bool
 is_port_part [] = true
 is_port_part (b ∷ port) = (b == colon) && is_port port
 
--- the value is this host, its letters in either case, with or without a port
+-- the value is this host in any case of letters, with or without a port
 abbrev pub is_host : List ℕ → List ℕ → Bool
 is_host host value = eq_ignore_case (take (length host) value) host && is_port_part (drop (length host) value)
 
@@ -30,6 +31,6 @@ names_here value = is_host (codes "127.0.0.1") value || (is_host (codes "localho
 abbrev pub is_foreign_field : Header → Bool
 is_foreign_field field = is_named (codes "origin") field || (is_named (codes "host") field && not (names_here field.1))
 
--- one of the fields is such a one
+-- one of the fields marks the request as foreign
 abbrev pub is_foreign : List Header → Bool
 is_foreign fields = list_any is_foreign_field fields

@@ -1,4 +1,4 @@
--- What the judgement of a whole request means. Only this crate's proofs cite this.
+-- The judgement of a whole request, as the definitions have it. Only this crate's proofs cite this.
 use Rattle.esm_registry.specs.Machine.{asked}
 use Rattle.esm_api.specs.declared.judge.Judged.{Judged}
 use Rattle.esm_api.specs.declared.judge.Judged.TheVariants as judged

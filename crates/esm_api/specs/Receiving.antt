@@ -10,36 +10,36 @@ use Rattle.esm_api.specs.HeadRead.{IsPlanned}
 use Rattle.esm_api.specs.Plan.{body_bytes}
 use Rattle.esm_api.specs.Request.{Unfinished, IsJudged}
 
--- the bytes were read behind those that were there
+-- the link gave bytes, and they follow those that were there
 pub record ReadsMore (old new : Option Talk) (before after : List ℕ) : Type 0 where
   pub piece : List ℕ
   pub grown : after ≡ before ++ piece
   pub reads : Reads old new piece
 
--- a part of the bytes was written, from their front on
+-- the link took bytes from the front of these, all or a part
 pub record WritesPart (old new : Option Talk) (bytes : List ℕ) : Type 0 where
   pub sent : List ℕ
   pub unsent : List ℕ
   pub parts : bytes ≡ sent ++ unsent
   pub writes : Writes old new sent
 
--- some bytes were read
+-- the link gave bytes
 abbrev pub ReadsSome : Option Talk → Option Talk → Type 0
 ReadsSome old new = (bytes : List ℕ) × Reads old new bytes
 
--- bytes were read that are no whole request
+-- the link gave bytes that are not a whole request
 pub record ReadsUnfinished (old new : Option Talk) : Type 0 where
   pub bytes : List ℕ
   pub reads : Reads old new bytes
   pub unfinished : IsJudged bytes Unfinished
 
--- bytes were read on from those that were there, and all together are no whole request
+-- the link gave bytes, and with those that were there they are not a whole request
 pub record ReadsOnUnfinished (old new : Option Talk) (before : List ℕ) : Type 0 where
   pub bytes : List ℕ
   pub more : ReadsMore old new before bytes
   pub unfinished : IsJudged bytes Unfinished
 
--- what came of reading a request into this buffer
+-- what reading a request into this buffer results in
 abbrev pub Receives : Option Talk → Option Talk → List ℕ → Received → Type 0
 Receives old new buffer (received.Whole head filled) =
     (filled ≤ length buffer) × Reads old new (take filled buffer) × IsPlanned (take filled buffer) head
@@ -47,7 +47,7 @@ Receives old new buffer (received.Whole head filled) =
 Receives old new buffer received.Cut = ReadsUnfinished old new × IsReadOut new
 Receives old new buffer received.LinkFault = ReadsUnfinished old new
 
--- what came of reading up to the end of the head
+-- what reading up to the end of the head results in
 abbrev pub ReceivesHead : Option Talk → Option Talk → List ℕ → Received → Type 0
 ReceivesHead old new buffer (received.Whole head filled) =
     (filled ≤ length buffer) × Reads old new (take filled buffer) × IsPlanned (take filled buffer) head × (head.len ≤ filled)
@@ -55,7 +55,7 @@ ReceivesHead old new buffer (received.Whole head filled) =
 ReceivesHead old new buffer received.Cut = ReadsUnfinished old new × IsReadOut new
 ReceivesHead old new buffer received.LinkFault = ReadsUnfinished old new
 
--- the body was read whole behind the bytes that were there
+-- the whole body was read, behind the bytes that were there
 pub record ReceivesBody (old new : Option Talk) (before : List ℕ) (head : Head) (buffer : List ℕ) (filled : ℕ) : Type 0 where
   pub within : filled ≤ length buffer
   pub whole : head.len + body_bytes head.plan ≤ filled

@@ -1,5 +1,6 @@
--- What a list of bytes is as a request: it goes on, a row of the table refuses it, or it asks for a command. The order of the
--- rows, and when a request is whole, are this product's own; its body is JSON (Lambda API Reference of 2015-03-31).
+-- What a list of bytes is as a request: it is not whole yet, a row of the table refuses it, or it asks for a command. The
+-- order of the rows, and when a request is whole, are this product's own; its body is JSON (Lambda API Reference of
+-- 2015-03-31).
 use Rattle.std.specs.Prelude.{◌≡◌, ◌⊎◌, ℕ, nat_lt, List, length, take, Option, Some, None, if◌then◌else◌}
 use Rattle.serde_json.specs.Data.{Data}
 use Rattle.httparse.specs.Grammar.{RequestHead}
@@ -19,14 +20,14 @@ pub data Judgement : Type 0 where
   Refused : Refusal → Judgement
   Asks : Asked → Judgement
 
--- the change with the value of its body; a mapping without a UUID is looked for last
+-- the change with the value of its body; the body's JSON is judged before a missing UUID
 abbrev pub changing : Change → Option Data → Judgement
 changing what None = Refused row.Json
 changing change.Create (Some value) = Asks (Create value)
 changing (change.Update None) (Some value) = Refused row.Mapping
 changing (change.Update (Some id)) (Some value) = Asks (Update id value)
 
--- what a head's plan makes of the bytes behind the head
+-- what a head's plan decides of the bytes behind the head
 abbrev pub judged : Plan → List ℕ → Judgement
 judged (plan.Refuse row) after = Refused row
 judged plan.List after = Asks Listing

@@ -1,4 +1,4 @@
--- What is answered to a request, and what it leaves of the mappings: the first row of the table that holds. The statuses are
+-- The answer to a request, and the mappings after it: the first row of the table that holds decides. The statuses are
 -- those of the Lambda API Reference of 2015-03-31 (event source mappings).
 use Rattle.std.specs.Prelude.{ℕ, Bool, true, false, List, [], codes, Option, None}
 use Rattle.esm_registry.specs.declared.command.Applied.{Applied}
@@ -10,7 +10,7 @@ use Rattle.esm_registry.specs.Names.{error_text}
 use Rattle.esm_api.specs.Answer.{answer_text, refusal_text, status_of, row_text}
 use Rattle.esm_api.specs.Request.{Judgement, Unfinished, Refused, Asks}
 
--- the status and the bytes that are answered, the mappings afterwards, and the payload that is written, where one is
+-- the status and the bytes of the answer, the mappings afterwards, and the payload that is written, if there is one
 pub record Response : Type 0 where
   pub status : ℕ
   pub text : List ℕ
@@ -38,7 +38,7 @@ response_of stepped = record {
 abbrev pub failed_text : List ℕ
 failed_text = refusal_text 500 (error_text ServiceException) (codes "disk")
 
--- the row `disk`: the registry's disk failed, and the mappings are as before
+-- the row `disk`: the registry's disk failed, and the mappings stay as they were
 abbrev pub failed_response : Mappings → Response
 failed_response mappings = record { status = 500; text = failed_text; after = mappings; payload = None }
 
@@ -46,7 +46,7 @@ abbrev pub asked_response : Mappings → Asked → ℕ → Bool → Response
 asked_response mappings asked moment true = failed_response mappings
 asked_response mappings asked moment false = response_of (step mappings asked moment)
 
--- to a request that a row refuses before its command, or that asks for one; nothing is answered to one that goes on
+-- the answer to a request that a row refuses before its command, or that asks for one; an unfinished request gets none
 abbrev pub response : Mappings → Judgement → ℕ → Bool → Response
 response mappings Unfinished moment failed = record { status = 0; text = []; after = mappings; payload = None }
 response mappings (Refused row) moment failed = record { status = status_of row; text = row_text row; after = mappings; payload = None }

@@ -1,4 +1,4 @@
--- The rows of the router of paths. Only this crate's proofs cite this.
+-- The routes that the router of paths holds. Only this crate's proofs cite this.
 use Rattle.std.specs.Prelude.{[], ◌∷◌, ◌++◌, codes, Result, Ok}
 use Rattle.matchit.specs.Rows.{RowsOf, param_token}
 use Rattle.matchit.specs.Route.{Scan}

@@ -1,4 +1,4 @@
--- What the service of one connection leaves: of the link, where it tells it, and of the registry. This product's own.
+-- What serving one connection does to the link, where it shows its talk, and to the registry. This product's own.
 use Rattle.std.specs.Prelude.{◌≡◌, ◌≢◌, ◌≤◌, ◌+◌, ◌⊎◌, ℕ, List, ◌++◌, length, Bool, true, false, Option}
 use Rattle.std.specs.Option.{option_to_list}
 use Rattle.esm_io.specs.Faults.{Rose}
@@ -13,7 +13,7 @@ use Rattle.esm_api.specs.declared.length.TheConstants.{MAX_REQUEST_BODY}
 use Rattle.esm_api.specs.Request.{Judgement, Unfinished, Refused, Asks, IsJudged}
 use Rattle.esm_api.specs.Response.{response, asked_response}
 
--- A command was applied, or the disk failed under it: the mappings and payloads are those of the response, and a crash at
+-- A command was applied, or the disk failed during it: the mappings and payloads are those of the response. A crash at
 -- any moment of the call leaves the old payloads, or these and the one that is written.
 pub record IsApplied {D : Type 0} (m : DiskMeaning D) (old new : RegistryState D) (asked : Asked) (moment : ℕ) (failed : Bool) : Type 0 where
   pub mappings : new.mappings ≡ (asked_response old.mappings asked moment failed).after
@@ -31,9 +31,9 @@ Leaves m old new Unfinished moment failed = new ≡ old
 Leaves m old new (Refused row) moment failed = (new ≡ old) × (failed ≡ false)
 Leaves m old new (Asks asked) moment failed = IsApplied m old new asked moment failed
 
--- A whole request was read and took effect, and of the bytes that answer it all but these were written. The middle is a
--- link, and not only what one would tell: a call over any link has none to name but those that its own reads and writes
--- left.
+-- A whole request was read and took effect, and all bytes of its answer were written except these. The link in between is
+-- named as a link, and not by its talk alone: of a link that shows no talk, a call can only name the one that its own
+-- reads and writes left.
 pub record Responds {L D : Type 0} (told : L → Option Talk) (link link' : L) (m : DiskMeaning D) (old new : RegistryState D) (moment status : ℕ) (unsent : List ℕ) : Type 0 where
   pub read : List ℕ
   pub judgement : Judgement
@@ -50,14 +50,14 @@ pub record Responds {L D : Type 0} (told : L → Option Talk) (link link' : L) (
   pub failed_is : status ≡ 500 → failed ≡ true
   pub leaves : Leaves m old new judgement moment failed
 
--- bytes were read that are no whole request, and nothing else happened
+-- bytes were read that are not a whole request, and nothing else happened
 pub record Waits {D : Type 0} (link link' : Option Talk) (old new : RegistryState D) : Type 0 where
   pub read : List ℕ
   pub reads : Reads link link' read
   pub unfinished : IsJudged read Unfinished
   pub same : new ≡ old
 
--- bytes were read and none written; a whole request may have taken effect
+-- bytes were read and none was written; a whole request may have taken effect
 pub record IsUnanswered {D : Type 0} (link link' : Option Talk) (m : DiskMeaning D) (old new : RegistryState D) (moment : ℕ) : Type 0 where
   pub read : List ℕ
   pub reads : Reads link link' read

@@ -1,4 +1,4 @@
-// The bytes of an answer.
+// Writing the bytes of an answer.
 ghost use Rattle.std.specs.Prelude.{◌≡◌, ◌++◌, IfOk, OnOk, Some};
 ghost use Rattle.esm_api.specs.Answer.{answer_text, refusal_text, status_lines, error_line, last_lines, refusal_body, phrase_of};
 
@@ -7,7 +7,7 @@ use http::StatusCode;
 use itoa::Buffer;
 use std::alloc::Global;
 
-/// The answer with this status and body (RFC 9112).
+/// Returns the answer with this status and body (RFC 9112).
 pub fn answer(alloc: Global, status: u16, body: &[u8]) -> Result<Vec<u8>, OutOfMemory>
     ensures { IfOk result (λ text. text.items ≡ answer_text status body.now) }
 {
@@ -18,7 +18,7 @@ pub fn answer(alloc: Global, status: u16, body: &[u8]) -> Result<Vec<u8>, OutOfM
     Ok(text)
 }
 
-/// The answer that refuses with this status, error and message (Lambda API Reference of 2015-03-31, `Errors`).
+/// Returns the answer that refuses with this status, error and message (Lambda API Reference of 2015-03-31, `Errors`).
 pub fn refusal(
     alloc: Global,
     status: u16,
@@ -48,7 +48,7 @@ fn refusal_body(alloc: Global, message: &str) -> Result<Vec<u8>, OutOfMemory>
     Ok(text)
 }
 
-/// Appends the status line and the first header line. After an `Err` a part of them may stand there.
+/// Appends the status line and the first header line. After an `Err` a part of them may have been appended.
 #[tactic(auto, unfolding(crate::specs::Answer::status_lines))]
 fn push_status(text: &mut Vec<u8>, status: u16) -> Result<(), OutOfMemory>
     ensures { OnOk result (text.new.items ≡ text.old.items ++ status_lines status) }
@@ -62,7 +62,7 @@ fn push_status(text: &mut Vec<u8>, status: u16) -> Result<(), OutOfMemory>
     Ok(())
 }
 
-/// The phrase of a status code.
+/// The reason phrase of a status code, and nothing for a code without one.
 fn phrase(status: u16) -> &'static str
     ensures { result.now ≡ phrase_of status }
 {
@@ -75,7 +75,7 @@ fn phrase(status: u16) -> &'static str
     }
 }
 
-/// Appends the line that names the error. After an `Err` a part of it may stand there.
+/// Appends the line that names the error. After an `Err` a part of it may have been appended.
 #[tactic(auto, unfolding(crate::specs::Answer::error_line))]
 fn push_error(text: &mut Vec<u8>, name: &str) -> Result<(), OutOfMemory>
     ensures { OnOk result (text.new.items ≡ text.old.items ++ error_line name.now) }
@@ -86,7 +86,7 @@ fn push_error(text: &mut Vec<u8>, name: &str) -> Result<(), OutOfMemory>
     Ok(())
 }
 
-/// Appends the lines up to a body of so many bytes. After an `Err` a part of them may stand there.
+/// Appends the lines before a body of `count` bytes. After an `Err` a part of them may have been appended.
 #[tactic(auto, unfolding(crate::specs::Answer::last_lines))]
 fn push_last(text: &mut Vec<u8>, count: usize) -> Result<(), OutOfMemory>
     ensures { OnOk result (text.new.items ≡ text.old.items ++ last_lines count) }

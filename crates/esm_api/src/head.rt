@@ -1,4 +1,4 @@
-// The head of a request.
+// Finding and parsing the head of a request.
 ghost use Rattle.std.specs.Prelude.{◌≡◌, ◌<◌, ◌≤◌, ◌+◌, length, take, nat_le, ◌==◌, IfOk};
 ghost use Rattle.httparse.specs.Spans.{IsRequestWithin, IsRequestOf};
 ghost use Rattle.esm_api.specs.Head.{from_request_line, line_count};
@@ -12,7 +12,7 @@ use httparse::{Error, Status};
 use memchr::memrchr;
 use std::alloc::Global;
 
-/// What a head says: its length in bytes, where the body begins, and what it alone decides.
+/// What a head says: its length in bytes, behind which the body begins, and what it decides alone.
 #[derive(Clone, Copy)]
 pub struct Head {
     pub len: usize,
@@ -25,8 +25,8 @@ const BAD_HEAD: Head = Head {
     plan: Plan::Refuse(Refusal::Head),
 };
 
-/// Looks for a head at the front of the bytes, of which the first `looked` hold none and go on. The head is parsed only
-/// where a line has ended behind these, so once for each of its lines at most.
+/// Looks for a head at the front of the bytes. An earlier look at the first `looked` bytes found no whole head, and no
+/// reason to refuse them. The head is parsed only if a line ends behind those, so at most once for each of its lines.
 pub fn find_head(alloc: Global, bytes: &[u8], looked: usize) -> Result<Option<Head>, OutOfMemory>
     requires within { looked ≤ length bytes.now }
     requires short { length bytes.now ≤ MAX_HEAD }
@@ -40,7 +40,7 @@ pub fn find_head(alloc: Global, bytes: &[u8], looked: usize) -> Result<Option<He
     }
 }
 
-/// The same, but nothing is found also in bytes that are too many for a head.
+/// The same, but bytes that are too many for a head are not refused.
 fn look(alloc: Global, bytes: &[u8], looked: usize) -> Result<Option<Head>, OutOfMemory>
     requires within { looked ≤ length bytes.now }
     requires short { length bytes.now ≤ MAX_HEAD }
@@ -57,7 +57,7 @@ fn look(alloc: Global, bytes: &[u8], looked: usize) -> Result<Option<Head>, OutO
     }
 }
 
-/// Parses the head at the front of whole lines.
+/// Parses the head at the front of these bytes, which end with a line feed.
 fn parse(alloc: Global, lines: &[u8]) -> Result<Option<Head>, OutOfMemory>
     requires short { length lines.now ≤ MAX_HEAD }
     requires ends { EndsLine lines.now }
@@ -73,7 +73,7 @@ fn parse(alloc: Global, lines: &[u8]) -> Result<Option<Head>, OutOfMemory>
     }
 }
 
-/// The request line and more header lines than the limit have come.
+/// Whether the request line and more header lines than the limit have arrived.
 #[tactic(auto, unfolding(crate::specs::Head::line_feeds))]
 fn has_many_lines(lines: &[u8]) -> bool
     ensures { result ≡ nat_le (MAX_HEADER_LINES + 2) (line_count lines.now) }
@@ -98,7 +98,7 @@ fn from_request_line(bytes: &[u8]) -> &[u8]
     rest
 }
 
-/// What the head says that `httparse` found.
+/// The head whose spans `httparse` found.
 fn said(
     alloc: Global,
     bytes: &[u8],

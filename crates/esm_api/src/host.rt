@@ -1,4 +1,4 @@
-// Whether a request comes from elsewhere, as the fields of its head tell.
+// Whether a request comes from elsewhere, judged by the fields of its head.
 ghost use Rattle.std.specs.Prelude.{◌≡◌, length, map, All};
 ghost use Rattle.httparse.specs.Spans.{IsHeaderWithin, header_bytes};
 ghost use Rattle.esm_api.specs.Host.{is_port, is_port_part, is_host, names_here, is_foreign_field, is_foreign};
@@ -7,10 +7,11 @@ use esm_model::spelling::are_digits;
 use http1::text::eq_ignore_case;
 use httparse::spans::HeaderSpan;
 
-/// Digits of a port.
+/// The most digits of a port.
 pub const MAX_PORT_DIGITS: usize = 5;
 
-/// One of the fields is an `Origin` (RFC 6454, section 7), or a `Host` that names another machine (RFC 9110, section 7.2).
+/// Whether one of the fields is an `Origin` (RFC 6454, section 7), or a `Host` that names another machine (RFC 9110,
+/// section 7.2).
 pub fn is_foreign(bytes: &[u8], fields: &[HeaderSpan]) -> bool
     requires { All (IsHeaderWithin (length bytes.now)) fields.now }
     ensures { result ≡ is_foreign (map (header_bytes bytes.now) fields.now) }
@@ -23,7 +24,7 @@ pub fn is_foreign(bytes: &[u8], fields: &[HeaderSpan]) -> bool
     false
 }
 
-/// The same for one field.
+/// Whether this field is one of them.
 fn is_foreign_field(bytes: &[u8], field: &HeaderSpan) -> bool
     requires { IsHeaderWithin (length bytes.now) field.now }
     ensures { result ≡ is_foreign_field (header_bytes bytes.now field.now) }
@@ -33,14 +34,14 @@ fn is_foreign_field(bytes: &[u8], field: &HeaderSpan) -> bool
         || eq_ignore_case(name, b"host") && !names_here(field.value.of(bytes))
 }
 
-/// The value of a `Host` names this machine.
+/// Whether the value of a `Host` names this machine.
 fn names_here(value: &[u8]) -> bool
     ensures { result ≡ names_here value.now }
 {
     is_host(b"127.0.0.1", value) || is_host(b"localhost", value) || is_host(b"[::1]", value)
 }
 
-/// The value is this host, its letters in either case, with or without a port.
+/// Whether the value is this host, in any case of letters, with or without a port.
 fn is_host(host: &[u8], value: &[u8]) -> bool
     ensures { result ≡ is_host host.now value.now }
 {

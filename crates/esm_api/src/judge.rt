@@ -1,4 +1,4 @@
-// What a request asks for.
+// Judging a whole request: the command that it asks for, or its refusal.
 ghost use Rattle.std.specs.Prelude.{◌≡◌, ◌≤◌, length, option_map, IfOk};
 ghost use Rattle.serde_json.specs.View.{view};
 ghost use Rattle.esm_api.specs.Plan.{body_bytes};
@@ -12,14 +12,14 @@ use esm_registry::Command;
 use serde_json::Value;
 use std::alloc::Global;
 
-/// What a whole request comes to before its command is applied.
+/// What a whole request is judged to be before its command is applied.
 #[derive(Drop)]
 pub enum Judged {
     Refused(Refusal),
     Asks(Command),
 }
 
-/// What the plan makes of the bytes behind the head.
+/// Judges the bytes behind the head by its plan.
 pub fn judge(alloc: Global, plan: Plan, after: &[u8]) -> Result<Judged, OutOfMemory>
     requires { body_bytes plan ≤ length after.now }
     ensures { IfOk result (λ judgement. judgement_of judgement ≡ judged plan after.now) }
@@ -36,7 +36,8 @@ pub fn judge(alloc: Global, plan: Plan, after: &[u8]) -> Result<Judged, OutOfMem
     }
 }
 
-/// The change with the value of its body, where it is JSON.
+/// The command of the change with its body's value. `Refused` where the body is not JSON (`None`), or the path ends in no
+/// UUID.
 fn changing(change: Change, value: Option<Value>) -> Judged
     ensures { judgement_of result ≡ changing change (option_map view value) }
 {

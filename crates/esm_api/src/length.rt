@@ -1,4 +1,4 @@
-// The length of a body, as the fields of its head state it.
+// How long a request's body is, as the fields of its head state it.
 ghost use Rattle.std.specs.Prelude.{◌≡◌, ◌+◌, List, ℕ, [], ◌∷◌, ◌++◌, length, map, All, if◌then◌else◌};
 ghost use Rattle.httparse.specs.Spans.{IsHeaderWithin, header_bytes};
 ghost use Rattle.http1.specs.Fields.{is_named, values_named};
@@ -8,20 +8,20 @@ ghost use Rattle.esm_api.specs.HeadRead.{IsNamed, IsNamedWithin};
 use http1::text::eq_ignore_case;
 use httparse::spans::{HeaderSpan, Span};
 
-/// Bytes of the body of a request.
+/// The most bytes of a request's body.
 pub const MAX_REQUEST_BODY: usize = 65_536;
 
-/// How long a body is to be.
+/// The length of a request's body.
 #[derive(Clone, Copy)]
 pub enum BodyLength {
-    /// One `Content-Length` of digits does not state it alone.
+    /// No single `Content-Length` of digits states it alone.
     Missing,
     /// It is above `MAX_REQUEST_BODY`.
     TooLong,
     Bytes(usize),
 }
 
-/// The headers with one name.
+/// How many headers have one name.
 #[derive(Clone, Copy)]
 pub enum Named {
     None,
@@ -30,7 +30,8 @@ pub enum Named {
     Several,
 }
 
-/// The length that the fields state: one `Content-Length` of digits, without `Transfer-Encoding` (RFC 9112, section 6).
+/// The length that the fields state: that of the single `Content-Length` of digits, where there is no `Transfer-Encoding`
+/// (RFC 9112, section 6).
 pub fn body_length(bytes: &[u8], fields: &[HeaderSpan]) -> BodyLength
     requires { All (IsHeaderWithin (length bytes.now)) fields.now }
     ensures { result ≡ body_length (map (header_bytes bytes.now) fields.now) }
@@ -40,7 +41,7 @@ pub fn body_length(bytes: &[u8], fields: &[HeaderSpan]) -> BodyLength
     length_by(bytes, lengths, codings)
 }
 
-/// The same, by the headers with those two names.
+/// The same, from the headers with these two names.
 fn length_by(bytes: &[u8], lengths: Named, codings: Named) -> BodyLength
     requires { IsNamedWithin (length bytes.now) lengths }
     ensures { (texts others : List (List ℕ)) → IsNamed bytes.now texts lengths → IsNamed bytes.now others codings
@@ -68,7 +69,7 @@ fn headers_named(bytes: &[u8], fields: &[HeaderSpan], name: &[u8]) -> Named
     found
 }
 
-/// Those found so far, and this one where it has the name.
+/// `found`, and this field too if it has the name.
 fn also(bytes: &[u8], field: &HeaderSpan, name: &[u8], found: Named) -> Named
     requires field { IsHeaderWithin (length bytes.now) field.now }
     requires found { IsNamedWithin (length bytes.now) found }
@@ -86,7 +87,7 @@ fn also(bytes: &[u8], field: &HeaderSpan, name: &[u8], found: Named) -> Named
     }
 }
 
-/// The number that the text writes in digits, where it isn't above the bound.
+/// The number that the digits of the text write, if it is within the bound.
 fn number(text: &[u8]) -> BodyLength
     ensures { result ≡ length_of text.now }
 {

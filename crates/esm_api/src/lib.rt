@@ -1,6 +1,6 @@
-//! The API of event source mappings over HTTP: a request is read from a link, judged by the first row of the table that
-//! holds, applied to the registry and answered. The head is parsed by `httparse` where a line has ended, and routed by
-//! `matchit`; the body is read by `serde_json`.
+//! The HTTP API of event source mappings: a request is read from a link, judged by the first row of the table that holds,
+//! applied to the registry and answered. `httparse` parses the head whenever a line has ended, `matchit` routes its path,
+//! and `serde_json` reads the body.
 #![tactic(auto)]
 
 mod answer;

@@ -1,4 +1,4 @@
-// What a head alone decides.
+// What a head decides alone, before its body is read.
 ghost use Rattle.std.specs.Prelude.{◌≡◌, length, map, All, IfOk, Some, bytes_eq, IsUtf8};
 ghost use Rattle.httparse.specs.Spans.{IsHeaderWithin, header_bytes};
 ghost use Rattle.uuid.specs.Text.{parsed_hyphenated};
@@ -16,7 +16,7 @@ use std::alloc::Global;
 use std::str::from_utf8;
 use uuid::Uuid;
 
-/// The length of the mappings' path with a slash behind it.
+/// The length in bytes of the mappings' path with a slash behind it.
 const LAST_PART: usize = "/2015-03-31/event-source-mappings/".len();
 
 /// A command that takes a body.
@@ -24,11 +24,11 @@ const LAST_PART: usize = "/2015-03-31/event-source-mappings/".len();
 pub enum Change {
     /// `CreateEventSourceMapping`.
     Create,
-    /// `UpdateEventSourceMapping`, of the mapping with this UUID, where the path ends in one.
+    /// `UpdateEventSourceMapping` of the mapping with this UUID; `None` where the path does not end in one.
     Update(Option<Uuid>),
 }
 
-/// What a head alone decides.
+/// What a head decides alone.
 #[derive(Clone, Copy)]
 pub enum Plan {
     Refuse(Refusal),
@@ -38,12 +38,12 @@ pub enum Plan {
     Get(Uuid),
     /// `DeleteEventSourceMapping`.
     Delete(Uuid),
-    /// So many bytes of a body come.
+    /// A body of this many bytes is read for the change.
     Read(Change, usize),
 }
 
 impl Plan {
-    /// How many bytes of a body are awaited.
+    /// How many bytes of a body are expected.
     pub fn body_bytes(&self) -> usize
         ensures { result ≡ body_bytes self.now }
     {
@@ -72,7 +72,7 @@ pub fn plan_with(
     plan_by(alloc, target, method, body_length(bytes, fields))
 }
 
-/// The plan of a head with this target, method and length of the body, which comes from here.
+/// The plan of a head with this target, method and body length, once the request is not foreign.
 fn plan_by(
     alloc: Global,
     target: &[u8],
@@ -96,14 +96,14 @@ fn plan_by(
     }
 }
 
-/// The target has a `?`.
+/// Whether the target has a `?`.
 fn has_query(target: &[u8]) -> bool
     ensures { result ≡ has_query target.now }
 {
     target.iter().any(|b| *b == b'?')
 }
 
-/// The UUID in the hyphenated form, in either case of letters, that the path ends in.
+/// The UUID in hyphenated form, in either case of letters, at the end of the path.
 fn id_in(path: &[u8]) -> Option<Uuid>
     ensures { result ≡ id_in path.now }
 {
@@ -111,7 +111,7 @@ fn id_in(path: &[u8]) -> Option<Uuid>
     hyphenated(part)
 }
 
-/// The UUID that the text is, where it is one in the hyphenated form (RFC 9562, section 4).
+/// The UUID that the whole text is, in hyphenated form (RFC 9562, section 4); `None` where it is not one.
 fn hyphenated(text: &[u8]) -> Option<Uuid>
     ensures { result ≡ parsed_hyphenated text.now }
 {
@@ -124,7 +124,7 @@ fn hyphenated(text: &[u8]) -> Option<Uuid>
     }
 }
 
-/// By the method at the path of all mappings.
+/// The plan by the method, for the path of all mappings.
 fn plan_for_mappings(method: &[u8], length: BodyLength) -> Plan
     ensures { result ≡ plan_for_mappings method.now length }
 {
@@ -137,7 +137,7 @@ fn plan_for_mappings(method: &[u8], length: BodyLength) -> Plan
     Plan::Refuse(Refusal::Method)
 }
 
-/// By the method at the path of one mapping.
+/// The plan by the method, for the path of one mapping.
 fn plan_for_mapping(method: &[u8], id: Option<Uuid>, length: BodyLength) -> Plan
     ensures { result ≡ plan_for_mapping method.now id length }
 {
@@ -153,7 +153,7 @@ fn plan_for_mapping(method: &[u8], id: Option<Uuid>, length: BodyLength) -> Plan
     Plan::Refuse(Refusal::Method)
 }
 
-/// The name is that of the method; its case counts (RFC 9110, section 9.1).
+/// Whether the name is that of the method; its case counts (RFC 9110, section 9.1).
 fn is_method(name: &[u8], method: &Method) -> bool
     ensures { result ≡ bytes_eq name.now method.now }
 {
@@ -171,7 +171,7 @@ fn reading(change: Change, length: BodyLength) -> Plan
     }
 }
 
-/// The mapping with this UUID is told.
+/// The mapping with this UUID is returned; a path without one is refused.
 fn getting(id: Option<Uuid>) -> Plan
     ensures { result ≡ getting id }
 {
@@ -181,7 +181,7 @@ fn getting(id: Option<Uuid>) -> Plan
     }
 }
 
-/// The mapping with this UUID is deleted.
+/// The mapping with this UUID is deleted; a path without one is refused.
 fn deleting(id: Option<Uuid>) -> Plan
     ensures { result ≡ deleting id }
 {

@@ -1,4 +1,4 @@
-// Reading a request from a link.
+// Reading a request from a link, and sending the answer.
 ghost use Rattle.std.specs.Prelude.{◌≡◌, ◌+◌, ◌<◌, ◌≤◌, ℕ, length, take, vec_len, [], None, IfSome, IfOk, OnOk, OnErr};
 ghost use Rattle.esm_io.specs.Faults.{MAX_FAULTS, IsCount, Rose};
 ghost use Rattle.esm_io.specs.Talks.{Reads, Writes, IsReadOut};
@@ -13,19 +13,20 @@ use esm_io::{Failed, Link};
 use esm_model::{MAX_HEAD, OutOfMemory};
 use std::alloc::Global;
 
-/// What came of reading a request.
+/// How reading a request ended.
 #[derive(Clone, Copy)]
 pub enum Received {
-    /// The request is whole in so many bytes.
+    /// The head, and how many bytes the buffer holds: the whole request is among them.
     Whole(Head, usize),
-    /// The link ended before.
+    /// The link ended before the request was whole.
     Cut,
-    /// A read failed before.
+    /// A read failed before the request was whole.
     LinkFault,
 }
 
-/// Reads until the bytes read are a whole request, and leaves them at the front of the buffer. No read is made behind
-/// them. `LinkFault` only where the link's count of faults rose.
+/// Reads until the bytes read are a whole request, and leaves them at the front of the buffer. It makes no read after
+/// that. `LinkFault` is returned only if the link's count of faults rose. `OutOfMemory`: an allocation failed; bytes may
+/// have been read.
 pub fn receive<L: Link>(
     alloc: Global,
     link: &mut L,
@@ -56,7 +57,7 @@ pub fn receive<L: Link>(
     }
 }
 
-/// Makes the buffer no shorter than this.
+/// Makes the buffer at least `end` bytes long.
 fn make_room(buffer: &mut Vec<u8>, end: usize) -> Result<(), OutOfMemory>
     requires end { end ≤ MAX_HEAD + MAX_REQUEST_BODY }
     requires bound { vec_len buffer.old ≤ MAX_HEAD + MAX_REQUEST_BODY }
@@ -71,7 +72,7 @@ fn make_room(buffer: &mut Vec<u8>, end: usize) -> Result<(), OutOfMemory>
     Ok(())
 }
 
-/// Reads up to the end of the head, into a buffer as long as the longest head.
+/// Reads up to the end of the head, into a buffer that is as long as the longest head.
 fn receive_head<L: Link>(
     alloc: Global,
     link: &mut L,
@@ -100,8 +101,8 @@ fn receive_head<L: Link>(
     }
 }
 
-/// Reads on up to the end of the body that the head awaits, and answers how many bytes there are then; `None` where the
-/// link ended before.
+/// Reads on up to the end of the body that the head announces, and returns how many bytes the buffer holds then. `None`
+/// if the link ended before.
 fn receive_body<L: Link>(
     link: &mut L,
     buffer: &mut Vec<u8>,
@@ -134,8 +135,8 @@ fn receive_body<L: Link>(
     Ok(Some(filled))
 }
 
-/// Reads behind the first `filled` bytes of the buffer, which are no whole request, and answers how many; 0 is the link's
-/// end.
+/// Reads behind the first `filled` bytes of the buffer, which are not a whole request, and returns how many bytes were
+/// read; 0 is the end of the link.
 fn read_more<L: Link>(link: &mut L, buffer: &mut Vec<u8>, filled: usize) -> Result<usize, Failed>
     requires room { filled < vec_len buffer.old }
     requires unfinished { IsJudged (take filled buffer.old.items) Unfinished }
@@ -150,7 +151,7 @@ fn read_more<L: Link>(link: &mut L, buffer: &mut Vec<u8>, filled: usize) -> Resu
     read_behind(link, buffer.as_mut_slice(), filled)
 }
 
-/// The same, over the bytes of the buffer.
+/// The same, over the buffer as a slice.
 fn read_behind<L: Link>(link: &mut L, bytes: &mut [u8], filled: usize) -> Result<usize, Failed>
     requires { filled < length bytes.old }
     ensures within { IfOk result (λ n. filled + n ≤ length bytes.new) }
@@ -164,7 +165,8 @@ fn read_behind<L: Link>(link: &mut L, bytes: &mut [u8], filled: usize) -> Result
     link.read(rest)
 }
 
-/// Sends the bytes. `Failed` only where the link's count of faults rose; a part may have been sent then.
+/// Sends the bytes. `Failed` is returned only if the link's count of faults rose; a part of the bytes may have been sent
+/// then.
 pub fn send<L: Link>(link: &mut L, bytes: &[u8]) -> Result<(), Failed>
     requires counted { L.faults link.old ≤ MAX_FAULTS }
     ensures sent { OnOk result (Writes (L.told link.old) (L.told link.new) bytes.now) }

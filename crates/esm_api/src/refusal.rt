@@ -8,23 +8,23 @@ use esm_registry::ErrorName;
 /// 2015-03-31, event source mappings; the rows' order and messages are this product's own).
 #[derive(Clone, Copy, Debug, PartialEq, Eq)]
 pub enum Refusal {
-    /// The head can't be one within the limits.
+    /// No head within the limits can begin with these bytes.
     Head,
     /// The head has an `Origin`, or a `Host` that names another machine.
     Host,
     /// The target has a `?`.
     Query,
-    /// The path is none of the forms.
+    /// The path has none of the forms.
     Path,
-    /// The path has no such method.
+    /// The path does not take this method.
     Method,
-    /// A body's length isn't stated by one `Content-Length` of digits alone.
+    /// The body's length isn't stated by one `Content-Length` of digits alone.
     Length,
-    /// The body is too long.
+    /// The body is longer than `MAX_REQUEST_BODY`.
     Body,
     /// The body isn't JSON.
     Json,
-    /// The path ends in no UUID.
+    /// The path does not end in a UUID.
     Mapping,
 }
 

@@ -1,4 +1,4 @@
-// What a whole request does, and what is answered to it.
+// Applying a judged request to the registry, and the answer to it.
 ghost use Rattle.std.specs.Prelude.{◌≡◌, ◌≤◌, false, IfOk, OnErr};
 ghost use Rattle.esm_io.specs.Meanings.{disk as meaning};
 ghost use Rattle.esm_api.specs.Judged.{judgement_of};
@@ -19,7 +19,8 @@ pub struct Response {
     pub text: Vec<u8>,
 }
 
-/// Lets a judged request take effect, and gives the answer to it. After an `Err` a command that was accepted stays.
+/// Applies a judged request to the registry and returns the answer. If the registry's disk fails, that is the refusal
+/// with status 500. `OutOfMemory`: an allocation failed; a command that was already accepted stays.
 pub fn respond<D: Disk>(
     alloc: Global,
     registry: &mut Registry<D>,
@@ -46,7 +47,7 @@ pub fn respond<D: Disk>(
     }
 }
 
-/// The answer that tells what a command came to.
+/// The answer with the result of a command.
 fn answer_to(alloc: Global, applied: &Applied) -> Result<Response, OutOfMemory>
     ensures status { IfOk result (λ response. response.status ≡ applied_status applied.now) }
     ensures text { IfOk result (λ response. response.text.items ≡ applied_text applied.now) }
@@ -71,7 +72,7 @@ fn answer_to(alloc: Global, applied: &Applied) -> Result<Response, OutOfMemory>
     }
 }
 
-/// The answer where the registry's disk failed.
+/// The answer if the registry's disk failed: status 500.
 fn disk_failed(alloc: Global) -> Result<Response, OutOfMemory>
     ensures status { IfOk result (λ response. response.status ≡ 500) }
     ensures text { IfOk result (λ response. response.text.items ≡ failed_text) }

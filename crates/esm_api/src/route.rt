@@ -1,4 +1,4 @@
-// What a path names.
+// Routing a path.
 ghost use Rattle.std.specs.Prelude.{◌≡◌, IfOk, OnOk};
 ghost use Rattle.matchit.specs.Route.{parse_route};
 ghost use Rattle.esm_api.specs.Plan.{route_of};
@@ -13,11 +13,11 @@ use std::alloc::Global;
 pub enum Route {
     /// All mappings.
     Mappings,
-    /// The mapping that its last part tells.
+    /// The mapping that its last part names.
     Mapping,
 }
 
-/// What the path names, where it has one of the forms.
+/// Returns what the path names, or `None` where it has none of the forms.
 pub fn route_of(alloc: Global, path: &str) -> Result<Option<Route>, OutOfMemory>
     ensures { IfOk result (λ route. route ≡ route_of path.now) }
 {
@@ -25,7 +25,7 @@ pub fn route_of(alloc: Global, path: &str) -> Result<Option<Route>, OutOfMemory>
     Ok(at(&router, path))
 }
 
-/// What the routes make of the path.
+/// The route of the path in this router.
 fn at(router: &Router<Route>, path: &str) -> Option<Route>
     requires { router.now ≡ routes }
     ensures { result ≡ route_of path.now }
@@ -36,7 +36,7 @@ fn at(router: &Router<Route>, path: &str) -> Option<Route>
     }
 }
 
-/// The forms of paths.
+/// The router with the three forms of paths.
 fn router(alloc: Global) -> Result<Router<Route>, OutOfMemory>
     ensures { IfOk result (λ router. router ≡ routes) }
 {
@@ -59,7 +59,7 @@ fn router(alloc: Global) -> Result<Router<Route>, OutOfMemory>
     Ok(router)
 }
 
-/// Adds a form; no form of the product stands against another.
+/// Adds a form to the router. No two forms conflict, so an insert fails only if memory runs out.
 fn add(router: &mut Router<Route>, form: &str, route: Route) -> Result<(), OutOfMemory>
     ensures { OnOk result (Inserts (parse_route form.now) route router.old router.new) }
 {

@@ -13,22 +13,22 @@ use esm_model::OutOfMemory;
 use esm_registry::Registry;
 use std::alloc::Global;
 
-/// What came of one connection.
+/// How serving one connection ended.
 #[derive(Clone, Copy, Debug, PartialEq, Eq)]
 pub enum Served {
     /// The request was answered with this status code.
     Answered(u16),
-    /// The link ended before a whole request.
+    /// The link ended before a request was whole.
     Cut,
     /// A read or a write of the link failed.
     LinkFault,
 }
 
-/// Reads one request from a link, lets it take effect on the registry at a moment in milliseconds since 1970, and writes
-/// the answer, all of it or up to a fault of the link. No read is made once the bytes read are a whole request, and what
-/// follows them has no effect. `LinkFault` only where the link's count of faults rose. After `OutOfMemory` nothing is
-/// written; a command that was accepted stays, as it does after a `LinkFault` (Lambda API Reference of 2015-03-31, event
-/// source mappings; RFC 9112).
+/// Reads one request from a link, applies it to the registry at a moment in milliseconds since 1970, and writes the
+/// answer: all of it, or a part up to a fault of the link. It makes no read once the bytes read are a whole request, and
+/// ignores what follows them. `LinkFault` is returned only if the link's count of faults rose. `OutOfMemory`: an
+/// allocation failed, and nothing was written to the link. After both, a command that was accepted stays (Lambda API
+/// Reference of 2015-03-31, event source mappings; RFC 9112).
 pub fn serve_one<L: Link, D: Disk>(
     alloc: Global,
     link: &mut L,
@@ -45,10 +45,10 @@ pub fn serve_one<L: Link, D: Disk>(
         → Waits (L.told link.old) (L.told link.new) registry.old registry.new
         ⊎ ((n : ℕ) × (unsent : List ℕ) × Responds L.told link.old link.new (meaning D.Disk) registry.old registry.new moment n unsent)) }
     ensures unanswered { OnErr result (IsUnanswered (L.told link.old) (L.told link.new) (meaning D.Disk) registry.old registry.new moment) }
-    // The causes.
+    // The causes of `LinkFault` and of status 500.
     ensures link_cause { IfOk result (λ served. served ≡ Served.LinkFault → Rose (L.faults link.old) (L.faults link.new)) }
     ensures disk_cause { IfOk result (λ served. served ≡ Served.Answered 500 → Rose (D.faults registry.old.journal.disk) (D.faults registry.new.journal.disk)) }
-    // The counts; the registry's disk is as honest as it was.
+    // The counts of faults do not fall; the registry's disk is as honest as it was.
     ensures count { OnOk result (IsCount (L.faults link.old) (L.faults link.new)) }
     ensures never_falls { L.faults link.old ≤ L.faults link.new }
     ensures disk_never_falls { D.faults registry.old.journal.disk ≤ D.faults registry.new.journal.disk }

@@ -5,7 +5,7 @@ use Rattle.esm_model.specs.declared.book.Change.{Change}
 use Rattle.esm_book.specs.declared.error.Refusal.{Refusal}
 use Rattle.esm_book.specs.declared.error.Refusal.TheVariants.{Changed, OutOfMemory}
 
--- what the entries have written, in their order: the payloads, or the lines
+-- what is written of the entries, in their order: the payloads, or the lines
 abbrev pub written_of : {E : Type 0} → (E → Option (List ℕ)) → List E → List (List ℕ)
 written_of text entries = filter_map text entries
 
@@ -14,7 +14,7 @@ abbrev pub lengths_of : List (List ℕ) → List ℕ
 lengths_of [] = []
 lengths_of (payload ∷ payloads) = length payload ∷ lengths_of payloads
 
--- there is one line at most, of at most so many bytes
+-- there is at most one line, of at most `bound` bytes
 abbrev pub IsLineWithin : List (List ℕ) → ℕ → Type 0
 IsLineWithin [] bound = Unit {0}
 IsLineWithin (line ∷ lines) bound = (length line ≤ bound) × (lines ≡ [])
@@ -23,7 +23,7 @@ IsLineWithin (line ∷ lines) bound = (length line ≤ bound) × (lines ≡ [])
 abbrev pub added : {E : Type 0} → List E → List E → List E
 added before now = reverse (take (length now - length before) now)
 
--- why a call was not taken: for such a change, told twice alike, or for want of memory
+-- why a call was refused: for such a change, given twice, or since an allocation failed
 abbrev pub IsRefused : (Change → Type 0) → Refusal → Type 0
 IsRefused found (Changed told kept) = found told × (kept ≡ told)
 IsRefused found OutOfMemory = Unit {0}

@@ -15,8 +15,8 @@ is_end (Closed lane window moment) = false
 is_end (Replayed shard places moment) = false
 is_end (Shut moment) = true
 
--- The entry may follow the history, or a front of it behind which calls and the input ended, and nothing else was. A history is
--- written newest entry first.
+-- The entry may follow the history, or a prefix of it that only ends of calls and of the input follow. A history is written
+-- newest entry first.
 pub record FollowsFront (may : List Entry → Entry → Type 0) (h : List Entry) (e : Entry) : Type 0 where
   pub before : List Entry
   pub later : List Entry

@@ -1,4 +1,4 @@
--- What a core means, as one value, so that a contract is handed one argument for it. This product's own.
+-- What a core means, as one value, so that a contract takes one argument for it. This product's own.
 use Rattle.std.specs.Prelude.{ℕ, List, Option}
 use Rattle.esm_book.specs.declared.decisions.Decisions.{Ghosts as Decisions}
 

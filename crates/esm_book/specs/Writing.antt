@@ -23,19 +23,19 @@ pub record IsReady {C E D T : Type 0} (k : CoreMeaning C E) (n : DestMeaning T) 
   pub room : pair.room ≡ lengths_of (written_of k.payload (k.owed core))
   pub line_room : HasLineRoom (has_room dest) (written_of k.line (k.owed core))
 
--- Behind a history, entries were due, in order. The first of them were paid and the others are owed, and the devices have
+-- After a history, entries were due, in order. The first of them were paid and the others are owed, and the devices have
 -- grown by them.
 pub record Writes {C E D T : Type 0} (k : CoreMeaning C E) (m : DiskMeaning D) (n : DestMeaning T) (past due : List E) (core' : C) (pair pair' : PairState D) (dest dest' : T) (paid hand tried : List E) : Type 0 where
   pub history_is : k.history core' ≡ reverse paid ++ past
   pub due_is : due ≡ paid ++ k.owed core'
   pub grown : HasGrown k m n pair pair' dest dest' paid hand tried
 
--- the entry whose line was delivered and whose payload may stand on the disk that failed
+-- the entry whose line was delivered and whose payload may be on the disk that failed
 abbrev pub hand_of : {E : Type 0} → Fault → List E → List E
 hand_of Disk owed = take 1 owed
 hand_of Dest owed = []
 
--- the entry whose line may stand at the destination that failed
+-- the entry whose line may be at the destination that failed
 abbrev pub tried_of : {E : Type 0} → Fault → List E → List E
 tried_of Disk owed = []
 tried_of Dest owed = take 1 owed

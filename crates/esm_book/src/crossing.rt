@@ -1,4 +1,4 @@
-//! A core over its devices moves between threads where they do.
+//! A core over its devices is `Send` if all of them are.
 
 use crate::decisions::Decisions;
 use crate::durable::Durable;
@@ -6,7 +6,7 @@ use esm_io::{Dest, Disk};
 
 fn crosses<T: Send>() {}
 
-/// A core over its devices moves between threads where the core, the disks and the destination do.
+/// `Durable` is `Send` if the core, the disks and the destination are.
 pub fn cores_cross<C: Decisions + Send, D: Disk + Send, T: Dest + Send>() {
     crosses::<Durable<C, D, T>>();
 }

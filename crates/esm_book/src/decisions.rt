@@ -19,7 +19,7 @@ pub trait Decisions {
     /// An entry, with what is written for it. Only contracts speak of it: no value is made.
     type Entry;
 
-    /// What is asked, with all that it takes.
+    /// A call, with all that it takes.
     type Call;
 
     type Answer: Drop;
@@ -33,13 +33,13 @@ pub trait Decisions {
     /// The entries that were decided and are not yet paid, in the order in which they are to be written.
     ghost owed: { Self → List Self.Entry };
 
-    /// What is owed can be paid: so after each decision, and until something is noted.
+    /// What is owed can be paid. This holds after each decision, until something is noted.
     ghost payable: { Self → Type 0 };
 
-    /// What an entry has in the journal, where it has anything there.
+    /// The payload of an entry in the journal, if it has one.
     ghost payload: { Self.Entry → Option (List ℕ) };
 
-    /// The line that is delivered before the payload of an entry is appended, where it has one.
+    /// The line that is delivered before the payload of an entry is appended, if it has one.
     ghost line: { Self.Entry → Option (List ℕ) };
 
     /// The call may be made.
@@ -51,16 +51,17 @@ pub trait Decisions {
     /// The call is refused for good, since it brings this change.
     ghost refuses: { Self → Self.Call → Change → Type 0 };
 
-    /// Something may differ so from what a core that was opened with this keeps.
+    /// What comes may differ in this way from what a core that was opened with this keeps.
     ghost is_change: { Self.Origin → Change → Type 0 };
 
-    /// Where nothing is written any more, the call adds these entries, oldest first. They have neither payload nor line.
+    /// When nothing is written any more, the call adds these entries, oldest first. They have neither payload nor line.
     ghost notes: { Self → Self.Call → List Self.Entry → Type 0 };
 
-    /// The same core with nothing owed.
+    /// The core once what is owed was discarded.
     ghost forgotten: { Self → Self };
 
-    /// Decides a call, and owes the entries that it adds. Takes all the memory that paying them will need.
+    /// Decides a call, and owes the entries that it adds. Takes all the memory that paying them needs. After a refusal the
+    /// core is as before.
     fn decide(&mut self, alloc: Global, call: Self::Call) -> Result<Self::Answer, Refusal>
         requires may { may_ask self.old call }
         requires settled { owed self.old ≡ [] }
@@ -72,7 +73,7 @@ pub trait Decisions {
         ensures refused { IfErr result (IsRefused (λ change. refuses self.old call change × is_change (origin self.old) change)) }
         ensures unchanged { OnErr result (self.new ≡ self.old) };
 
-    /// Gives up what is owed. Takes no memory.
+    /// Discards what is owed. Takes no memory.
     fn forget(&mut self)
         ensures { self.new ≡ forgotten self.old };
 
@@ -80,8 +81,8 @@ pub trait Decisions {
     fn owed_lengths(&self, alloc: Global) -> Result<Vec<u32>, OutOfMemory>
         ensures { IfOk result (λ lengths. lengths.items ≡ lengths_of (written_of payload (owed self.now))) };
 
-    /// A number of bytes that the owed line is not longer than, where an owed entry has a line. No two of them have, since
-    /// a destination makes room for one. Takes no memory.
+    /// An upper bound on the length of the owed line in bytes, if an owed entry has a line. At most one has, since a
+    /// destination makes room for one. Takes no memory.
     fn owed_line_bound(&self) -> Option<u64>
         ensures within { IfSome result (IsLineWithin (written_of line (owed self.now))) }
         ensures none { IfNone result (written_of line (owed self.now) ≡ []) };
@@ -90,14 +91,14 @@ pub trait Decisions {
     fn owed_count(&self) -> usize
         ensures { result ≡ length (owed self.now) };
 
-    /// The payload of the first owed entry, where it has one. Takes no memory.
+    /// The payload of the first owed entry, if it has one. Takes no memory.
     fn first_payload(&self) -> Option<&[u8]>
         requires { 0 < length (owed self.now) }
         ensures payload { IfSome result (λ bytes. written_of payload (take 1 (owed self.now)) ≡ bytes.now ∷ []) }
         ensures short { IfSome result (λ bytes. length bytes.now ≤ MAX_PAYLOAD) }
         ensures none { IfNone result (written_of payload (take 1 (owed self.now)) ≡ []) };
 
-    /// The line of the first owed entry, where it has one. Takes no memory.
+    /// The line of the first owed entry, if it has one. Takes no memory.
     fn first_line(&self) -> Option<&[u8]>
         requires { 0 < length (owed self.now) }
         ensures line { IfSome result (λ bytes. written_of line (take 1 (owed self.now)) ≡ bytes.now ∷ []) }
@@ -113,7 +114,7 @@ pub trait Decisions {
         ensures history { history self.new ≡ take 1 (owed self.old) ++ history self.old }
         ensures owed { owed self.new ≡ drop 1 (owed self.old) };
 
-    /// Adds what can be said of a call of which nothing is written. Takes no memory.
+    /// Adds what a call leaves in the history when nothing of it is written. Takes no memory.
     fn note(&mut self, call: Self::Call)
         requires { may_ask self.old call }
         ensures noted { notes self.old call (added (history self.old) (history self.new)) }

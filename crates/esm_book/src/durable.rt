@@ -24,7 +24,7 @@ use std::marker::Model;
 use std::mem;
 use std::snapshot::Snapshot;
 
-/// What a book over devices is made of, and why it is down, where it is.
+/// What a book over devices is made of, and why it is down, if it is.
 #[derive(Drop)]
 pub struct Parts<C, D: Disk, T> {
     pub core: C,
@@ -85,10 +85,10 @@ impl<C: Decisions, D: Disk, T: Dest> Durable<C, D, T> {
         }
     }
 
-    /// Makes one call of the core, and writes what it adds. All memory is taken before the first call of a device: after
-    /// `OutOfMemory` nothing of the call is anywhere. A call that adds nothing makes no room and calls no device. After
-    /// `DiskFault` and `DestFault` the entries that were written before the fault stay. On a book that is down the core
-    /// notes the call.
+    /// Makes one call of the core, and writes what it adds. All memory is taken before the first call of a device, so after
+    /// `OutOfMemory` no device has anything of the call. A call that adds nothing makes no room and calls no device. After
+    /// `DiskFault` and `DestFault` the entries that were written before the fault stay. After these and after `Changed` the
+    /// book is down. On a book that was down the core notes the call, and `Down` is returned.
     pub fn carry_out(&mut self, alloc: Global, call: C::Call) -> Result<C::Answer, CallError>
         requires { C.may_ask self.old.core call }
         // What the call decides and adds: after Ok all of it, after a fault the first of it, and the rest is owed.
@@ -116,7 +116,7 @@ impl<C: Decisions, D: Disk, T: Dest> Durable<C, D, T> {
             self.old.pair self.new.pair self.old.dest self.new.dest
             (added (C.history self.old.core) (C.history self.new.core) ++ in_doubt result (C.owed self.new.core)) }
         ensures kept { PairKeepsWhileUp (disk D.Disk) self.new.pair }
-        // When each error comes, and what it leaves.
+        // When each error is returned, and what it leaves.
         ensures disk_fault { IsErrOf result CallError.DiskFault → Rose (D.faults self.old.pair.used) (D.faults self.new.pair.used) }
         ensures dest_fault { IsErrOf result CallError.DestFault → Rose (T.faults self.old.dest) (T.faults self.new.dest) }
         ensures down { IsErrOf result CallError.Down ↔ IsSome self.old.trouble }
@@ -149,8 +149,8 @@ impl<C: Decisions, D: Disk, T: Dest> Durable<C, D, T> {
         }
     }
 
-    /// Adds to the history what can be said of a call of which nothing is written, whether or not the book is down. Takes
-    /// no memory, and calls no device.
+    /// Adds what a call leaves in the history when nothing of it is written, whether or not the book is down. Takes no
+    /// memory, and calls no device.
     pub fn note(&mut self, call: C::Call)
         requires { C.may_ask self.old.core call }
         ensures noted { C.notes self.old.core call (added (C.history self.old.core) (C.history self.new.core)) }
@@ -162,8 +162,8 @@ impl<C: Decisions, D: Disk, T: Dest> Durable<C, D, T> {
         self.core.note(call);
     }
 
-    /// The first fault or change that a call answered; `None` exactly where none did. Its clauses say what the type keeps
-    /// of any book, whoever made its calls. Takes no memory.
+    /// The first fault or change that a call returned; `None` if none did. Its clauses say what holds of any book, whoever
+    /// made its calls. Takes no memory.
     pub fn trouble(&self) -> Option<&Trouble>
         ensures value { option_copied result ≡ self.now.trouble }
         // What the devices have beyond those that were handed in.
@@ -180,8 +180,8 @@ impl<C: Decisions, D: Disk, T: Dest> Durable<C, D, T> {
         self.trouble.as_ref()
     }
 
-    /// What the disks leave since a moment at which nobody had opened them yet, where each had one image then, as after a
-    /// crash or a sync. Does nothing.
+    /// What a crash leaves of the disks since a moment before they were opened, if each had one image then, as after a crash
+    /// or a sync. `journal` and `spare` are the disks at that moment. Does nothing.
     pub fn since_before(&self, journal: &Snapshot<D>, spare: &Snapshot<D>)
         requires first { IsOnlyRead (disk D.Disk) journal.now.value (first_disk self.now.found) }
         requires second { IsOnlyRead (disk D.Disk) spare.now.value (second_disk self.now.found) }
@@ -205,7 +205,7 @@ impl<C: Decisions, D: Disk, T: Dest> Durable<C, D, T> {
         &self.core
     }
 
-    /// The parts, as the calls left them, the trouble moved out with them. Takes no memory.
+    /// The parts and the trouble, as the calls left them. Takes no memory.
     pub fn into_parts(self) -> Parts<C, D, T>
         ensures core { result.core ≡ self.core }
         ensures pair { result.pair ≡ self.pair }

@@ -4,8 +4,8 @@ use esm_model::{Change, OutOfMemory};
 /// Why a core did not take a call. The core is as before.
 #[derive(Drop, Debug)]
 pub enum Refusal {
-    /// The call is refused for good, and no later one is made: what came differs from what the journal kept. The change
-    /// is told twice, once for the answer of the call and once to be kept.
+    /// The call is refused for good, and no later one is made: what came differs from what the journal kept. The change is
+    /// there twice, once to be returned and once to be kept.
     Changed { told: Change, kept: Change },
     OutOfMemory,
 }
@@ -43,7 +43,7 @@ pub enum CallError {
     Changed(Change),
     /// An earlier call found trouble.
     Down,
-    /// Want of memory; nothing has changed but room that was made.
+    /// An allocation failed; nothing has changed, except that room may be reserved.
     OutOfMemory,
 }
 

@@ -1,4 +1,4 @@
-//! What holds of devices that go on, as the contracts of functions that do nothing.
+//! What holds of devices over several calls. Each law is the contract of a function that does nothing.
 ghost use Rattle.std.specs.Prelude.{◌≡◌, ◌++◌, List, [], false};
 ghost use Rattle.esm_io.specs.Meanings.{disk, destination};
 ghost use Rattle.esm_journal.specs.Pair.{PairState, PairKeepsWhileUp};
@@ -9,8 +9,8 @@ use crate::decisions::Decisions;
 use esm_io::{Dest, Disk};
 use esm_journal::laws::file_beside_spare;
 
-/// Devices that went on, and went on again, went on by the entries of both: so what each call of a book promises from its
-/// own start and what its type keeps from the opening are one relation.
+/// Devices that grew by some entries and then by others grew by the entries of both. So what a call of a book promises from
+/// its own start, and what its type keeps from the opening on, is one relation.
 pub fn growth_joins<C: Decisions, D: Disk, T: Dest>()
     ensures joined { (pair pair' pair'' : PairState D) (dest dest' dest'' : T) (paid more hand tried : List C.Entry) →
         HasGrown (decisions C.Decisions) (disk D.Disk) (destination T.Dest) pair pair' dest dest' paid [] [] →

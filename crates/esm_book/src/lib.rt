@@ -1,5 +1,5 @@
-//! The layer of a book over its devices: what a core decided is delivered and appended entry by entry, and a crash at
-//! any moment leaves the payloads of whole entries alone. It knows disks and a destination, and not what an entry means.
+//! The layer of a book over its devices: what a core decided is delivered and appended entry by entry, and a crash at any
+//! moment leaves only the payloads of whole entries. It knows disks and a destination, but not what an entry means.
 #![tactic(auto)]
 
 pub mod crossing;

@@ -1,11 +1,11 @@
-// The destination of a book without one, which never fails and tells nothing.
+// The destination of a book without one, which never fails and shows no line.
 ghost use Rattle.std.specs.Prelude.{None, false, true};
 
 use esm_io::{Dest, DestError};
 use esm_model::OutOfMemory;
 use std::alloc::Global;
 
-/// The destination of a book without one: it never fails, and tells nothing.
+/// The destination of a book without one: it never fails, and shows no line.
 #[derive(Drop, Debug)]
 pub struct Nowhere {}
 

@@ -1,4 +1,4 @@
-// Writing what is owed: of each entry its line, then its payload.
+// Writes what is owed: of each entry its line, then its payload.
 ghost use Rattle.std.specs.Prelude.{◌≡◌, ◌<◌, [], length, take, drop, true, false, OnOk, OnErr, IfErr};
 ghost use Rattle.esm_io.specs.Meanings.{disk, destination};
 ghost use Rattle.esm_book.specs.Decided.{written_of, lengths_of, added};
@@ -14,7 +14,7 @@ use esm_journal::{AppendError, Pair};
 use esm_model::OutOfMemory;
 use std::alloc::Global;
 
-/// Delivers the line of the first owed entry, where it has one.
+/// Delivers the line of the first owed entry, if it has one.
 fn deliver_first<C: Decisions, T: Dest>(alloc: Global, core: &C, dest: &mut T) -> Result<(), Failed>
     requires owes { 0 < length (C.owed core.now) }
     requires usable { T.failed dest.old ≡ false }
@@ -36,7 +36,7 @@ fn deliver_first<C: Decisions, T: Dest>(alloc: Global, core: &C, dest: &mut T) -
     }
 }
 
-/// Appends the payload of the first owed entry, where it has one.
+/// Appends the payload of the first owed entry, if it has one.
 fn append_first<C: Decisions, D: Disk>(
     alloc: Global,
     core: &C,
@@ -121,7 +121,7 @@ fn reserve_owed<C: Decisions, D: Disk, T: Dest>(
     }
 }
 
-/// Writes all that is owed, entry by entry, up to the first fault of a device. Takes no memory, since room was made.
+/// Writes all that is owed, entry by entry, up to the first fault of a device. Takes no memory: room was made.
 pub(crate) fn write_owed<C: Decisions, D: Disk, T: Dest>(
     alloc: Global,
     core: &mut C,
@@ -150,7 +150,8 @@ pub(crate) fn write_owed<C: Decisions, D: Disk, T: Dest>(
     Ok(())
 }
 
-/// Makes room for all that is owed and writes it, up to the first fault of a device. Where nothing is owed it does nothing.
+/// Makes room for all that is owed and writes it, up to the first fault of a device. Without room, discards what is owed.
+/// Does nothing if nothing is owed.
 pub(crate) fn write_out<C: Decisions, D: Disk, T: Dest>(
     alloc: Global,
     core: &mut C,

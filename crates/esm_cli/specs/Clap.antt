@@ -1,5 +1,4 @@
--- The command of `clap` that stands for a list of options, and what its matches give. Only this crate's proofs cite
--- this.
+-- The command of `clap` that represents a list of options, and what its matches hold. Only this crate's proofs cite this.
 use Rattle.std.specs.Prelude.{◌≡◌, ℕ, Bool, true, false, List, [], map, codes, Option, Some, None, if◌then◌else◌}
 use Rattle.clap.specs.Words.{App, Rule, Shape, first_value, found_of, new_app, new_rule}
 use Rattle.clap.specs.declared.builder.action.ArgAction.TheVariants.{Set, SetTrue}
@@ -23,12 +22,12 @@ top options = record (new_app (codes "esm")).top { rules = map raw_rule options;
 abbrev pub app : Options → App
 app options = record { top = top options; subs = [] }
 
--- what a getter of a flag answers by the text
+-- what a getter of a flag returns for the text
 pub record FlagReads (text : Option (List ℕ)) (answer : Bool) : Type 0 where
   pub none : text ≡ None → answer ≡ false
   pub value : text ≡ Some (codes "true") → answer ≡ true
   pub other : text ≡ Some (codes "false") → answer ≡ false
 
--- the value that the matches have of each option; a flag has none
+-- the value that the matches hold for each option; a flag has none
 abbrev pub values_found : ArgMatches → Values
 values_found m name = if has_value name then first_value (found_of m) (option_name name) else None

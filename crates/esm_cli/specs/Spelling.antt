@@ -5,7 +5,7 @@ use Rattle.std.specs.List.{IsDistinct, list_all, list_any}
 use Rattle.std.specs.Option.{option_map_or}
 use Rattle.std.specs.Str.{bytes_eq}
 
--- an option as it is given: its name, and its value where it has one
+-- an option as it is given: its name, and its value if it has one
 pub record Given : Type 0 where
   pub name : List ℕ
   pub value : Option (List ℕ)
@@ -26,7 +26,7 @@ is_stray_dash (a ∷ b ∷ []) = a == 45
 is_stray_dash (a ∷ b ∷ c ∷ rest) = (a == 45) && not (b == 45)
 
 -- an option without a value is one word `--name`; one with a value is one word `--name=value`, or two words
--- `--name` and `value` where the value does not begin with `-`. A value is not empty
+-- `--name` and `value` if the value does not begin with `-`. A value is not empty
 abbrev pub IsSpelled : List ℕ → Option (List ℕ) → List (List ℕ) → Type 0
 IsSpelled name None words = words ≡ dashed name ∷ []
 IsSpelled name (Some value) words = (0 < length value)
@@ -42,7 +42,7 @@ AreSpelled (g ∷ gs) words =
 abbrev pub Options : Type 0
 Options = List (List ℕ × Bool)
 
--- a value is there exactly where the option has one
+-- a value is given if and only if the option takes one
 abbrev pub has_its_value : Bool → Option (List ℕ) → Bool
 has_its_value true value = is_some value
 has_its_value false value = not (is_some value)
@@ -50,7 +50,7 @@ has_its_value false value = not (is_some value)
 abbrev pub listed : Options → List ℕ → Option (List ℕ × Bool)
 listed options name = find (λ o. bytes_eq o.0 name) options
 
--- the command takes this option, with its value where it has one
+-- the command takes this option, given with its value if it has one
 abbrev pub is_listed : Options → Given → Bool
 is_listed options g = option_map_or (λ o. has_its_value o.1 g.value) (listed options g.name) false
 

@@ -21,8 +21,8 @@ use Rattle.esm_cli.specs.declared.table.Verb.TheVariants as verb
 abbrev pub Values : Type 0
 Values = OptionName → Option (List ℕ)
 
--- the number of an option: its value in decimal digits, `0` or digits that do not begin with `0`, within the bounds; where
--- the option is absent its default
+-- the number of an option: its value in decimal digits, `0` or digits that do not begin with `0`, within the bounds; its
+-- default if the option is absent
 abbrev pub IsNumberFrom : NumberRule → Option (List ℕ) → ℕ → Type 0
 IsNumberFrom rule (Some text) n = (text ≡ decimal n) × (rule.least ≤ n) × (n ≤ rule.greatest)
 IsNumberFrom rule None n = rule.default ≡ Some n

@@ -13,9 +13,9 @@ pub enum Command {
     Init,
     /// Runs one mapping.
     Run(RunWords),
-    /// Prints the fates in the journal.
+    /// Prints how many places of each shard have a fate, and the checkpoint, by the journal.
     Show,
-    /// Prints the failure lines.
+    /// Prints the failure lines, or the dead letters.
     Failures,
     /// Runs a generated stream of this many records.
     Gen {
@@ -23,21 +23,22 @@ pub enum Command {
     },
     /// Rewrites the journal.
     Compact,
-    /// Answers this many connections.
+    /// Answers this many connections, then ends.
     Serve {
         requests: u32,
     },
     /// Brings a journal of version 1 to version 2.
     Migrate,
-    /// Runs the mapping over a DynamoDB stream. `timeout` is in seconds; with `trace` the history is told before the report.
+    /// Runs the mapping over a DynamoDB stream. `timeout` is in seconds; with `trace` the history is printed before the
+    /// report.
     Ddb {
         config: Text,
         calls: u32,
         timeout: u32,
         trace: bool,
     },
-    /// Runs a queue's mapping, and moves what was received too often to the dead letters. `visibility` and `timeout` are in
-    /// seconds; with `trace` the history is told before the report.
+    /// Runs a queue's mapping, and moves each message that was received too often to the dead letters. `visibility` and
+    /// `timeout` are in seconds; with `trace` the history is printed before the report.
     Redrive {
         config: Text,
         max_receives: u32,
@@ -46,8 +47,8 @@ pub enum Command {
         timeout: u32,
         trace: bool,
     },
-    /// Calls the records that failure lines name again. `timeout` is in seconds; with `trace` the history is told before the
-    /// report.
+    /// Calls again the records that failure lines name. `timeout` is in seconds; with `trace` the history is printed before
+    /// the report.
     Replay {
         config: Text,
         calls: u32,
@@ -61,15 +62,15 @@ pub enum Command {
 pub struct RunWords {
     /// The mapping that is run.
     pub which: Which,
-    /// The greatest number of calls of functions.
+    /// The greatest number of calls that the run makes.
     pub calls: u32,
     /// The visibility timeout of a queue's messages, in seconds.
     pub visibility: u32,
-    /// The time that one call of a function has, in seconds.
+    /// The time limit of one call of a function, in seconds.
     pub timeout: u32,
     /// Whether the input is read to its end before the first call.
     pub read_first: bool,
-    /// Whether the run's history is told before its report.
+    /// Whether the run's history is printed before its report.
     pub trace: bool,
 }
 
@@ -89,12 +90,12 @@ pub enum Which {
     Mapping(Uuid),
 }
 
-/// Why words gave no command.
+/// Why words give no command.
 #[derive(Clone, Copy, Debug, PartialEq, Eq)]
 pub enum WordsError {
-    /// They spell none.
+    /// They spell no command.
     BadWords,
-    /// There was no memory to read them.
+    /// An allocation failed.
     OutOfMemory,
 }
 

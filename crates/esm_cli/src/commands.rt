@@ -1,4 +1,4 @@
-// Making a command of its verb and its options.
+// Making a command from its verb and its options.
 ghost use Rattle.std.specs.Prelude.{◌≡◌, IfOk};
 ghost use Rattle.esm_cli.specs.Clap.{values_found};
 ghost use Rattle.esm_cli.specs.Words.{IsSaid, IsRun, verb_of};
@@ -10,7 +10,8 @@ use crate::options::Options;
 use crate::table::{CALLS, MAX_RECEIVES, OptionName, RECORDS, REQUESTS, TIMEOUT, VISIBILITY, Verb};
 use std::alloc::Global;
 
-/// The command that its options say. `BadWords` exactly where they say none.
+/// Makes the command of this verb with these options. `BadWords` if they are not options of it; `OutOfMemory` if an
+/// allocation failed.
 pub fn command(alloc: Global, verb: Verb, options: &Options<'_>) -> Result<Command, WordsError>
     ensures verb { IfOk result (λ c. verb_of c ≡ verb) }
     ensures said { IfOk result (IsSaid (values_found options.now.matches) options.now.flags) }
@@ -53,7 +54,7 @@ pub fn command(alloc: Global, verb: Verb, options: &Options<'_>) -> Result<Comma
     }
 }
 
-/// The options of `run`. `BadWords` exactly where they are none.
+/// Makes the options of `run`. `BadWords` if these are none of its; `OutOfMemory` if an allocation failed.
 fn run(alloc: Global, options: &Options<'_>) -> Result<RunWords, WordsError>
     ensures said { IfOk result (IsRun (values_found options.now.matches) options.now.flags) }
     ensures bad { result ≡ Err WordsError.BadWords → (r : RunWords)

@@ -1,6 +1,6 @@
-//! The words of the command line: which command they spell, and with which options.
+//! Reads the words of the command line: which command they spell, and with which options.
 //! Pure: the words come as a list, and nothing is printed.
-//! `read` answers the command exactly where the words spell one.
+//! `read` returns the command if the words spell one, and `BadWords` if they spell none.
 #![tactic(auto)]
 
 pub mod command;

@@ -1,4 +1,4 @@
-// Reading the options of a command with `clap`, and the numbers, texts and mapping that they give.
+// Reads the options of a command with `clap`, and the numbers, texts and mapping that they give.
 ghost use Rattle.std.specs.Prelude.{◌≡◌, ◌≢◌, List, ℕ, map, drop, true, false, IfOk, IsErr, option_map};
 ghost use Rattle.std.specs.String.{string_bytes};
 ghost use Rattle.std.specs.List.{list_any};
@@ -28,8 +28,8 @@ pub struct Options<'a> {
     pub flags: Flags,
 }
 
-/// The options of the command that the words after the first spell.
-/// `BadWords` exactly where they spell none.
+/// Reads the words after the first as options of the command.
+/// `BadWords` if they are none; `OutOfMemory` if an allocation failed.
 pub fn read_options<'a>(
     alloc: Global,
     verb: Verb,
@@ -106,7 +106,7 @@ fn refusal(error: &Error) -> WordsError
     }
 }
 
-/// The UUID in the hyphenated form, in either case of letters.
+/// Reads a UUID in the hyphenated form, in either case of letters.
 fn hyphenated(word: &str) -> Option<Uuid>
     ensures { result ≡ parsed_hyphenated word.now }
 {
@@ -117,7 +117,7 @@ fn hyphenated(word: &str) -> Option<Uuid>
 }
 
 impl<'a> Options<'a> {
-    /// The value of the option.
+    /// Returns the value of the option, if it is given.
     fn value(&self, option: OptionName) -> Option<&'a str>
         requires { has_value option ≡ true }
         ensures { option_map (λ s. s.now) result ≡ values_found self.now.matches option }
@@ -125,7 +125,7 @@ impl<'a> Options<'a> {
         self.matches.get_str(option.name())
     }
 
-    /// The number of an option. `BadWords` exactly where it gives none within the bounds.
+    /// Reads the number of an option. `BadWords` if it gives none within the bounds, or is absent and has no default.
     pub fn number(&self, rule: NumberRule) -> Result<u32, WordsError>
         requires { has_value rule.option ≡ true }
         ensures read { IfOk result (IsNumber rule (values_found self.now.matches)) }
@@ -140,7 +140,7 @@ impl<'a> Options<'a> {
         }
     }
 
-    /// The text of an option. `BadWords` exactly where it is absent.
+    /// Copies the text of an option. `BadWords` if it is absent; `OutOfMemory` if an allocation failed.
     pub fn text(&self, alloc: Global, option: OptionName) -> Result<Text, WordsError>
         requires { has_value option ≡ true }
         ensures read { IfOk result (IsText option (values_found self.now.matches)) }
@@ -152,7 +152,8 @@ impl<'a> Options<'a> {
         copied(alloc, text)
     }
 
-    /// The mapping that is run. `BadWords` exactly where none is named or both ways of naming it are used.
+    /// Reads which mapping is run. `BadWords` if none is named, both ways of naming one are used, or the id is no hyphenated
+    /// UUID; `OutOfMemory` if an allocation failed.
     pub fn which(&self, alloc: Global) -> Result<Which, WordsError>
         ensures read { IfOk result (IsWhich (values_found self.now.matches)) }
         ensures bad { result ≡ Err WordsError.BadWords → (w : Which) → ¬ IsWhich (values_found self.now.matches) w }

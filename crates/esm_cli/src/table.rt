@@ -1,9 +1,9 @@
-//! One table of the commands, of the options that each takes, and of the bounds of their numbers: the definition of the
-//! command line reads it too. This product's own.
+//! The commands, the options that each takes, and the bounds of their numbers, in one table, which the definition of the
+//! command line also reads. This product's own.
 ghost use Rattle.std.specs.Prelude.{◌≡◌};
 ghost use Rattle.esm_cli.specs.Tables.{has_value, option_name, options_of, verb_named};
 
-/// What the first word asks for.
+/// The command that the first word names.
 #[derive(Clone, Copy, Debug, PartialEq, Eq)]
 pub enum Verb {
     Init,
@@ -79,7 +79,7 @@ pub struct NumberRule {
     pub option: OptionName,
     pub least: u32,
     pub greatest: u32,
-    /// The number where the option is absent; without one the option is needed.
+    /// The number if the option is absent. Without a default the option is required.
     pub default: Option<u32>,
 }
 
@@ -99,8 +99,8 @@ pub const VISIBILITY: NumberRule = NumberRule {
     default: Some(30),
 };
 
-/// The time that one call of a function has, in seconds. The bounds are those of a function's timeout (Lambda Developer
-/// Guide, Lambda quotas), and where none is given a call has the longest.
+/// The time limit of one call of a function, in seconds. The bounds are those of a function's timeout (Lambda Developer
+/// Guide, Lambda quotas). If the option is absent, a call has the longest.
 pub const TIMEOUT: NumberRule = NumberRule {
     option: OptionName::Timeout,
     least: 1,
@@ -108,7 +108,7 @@ pub const TIMEOUT: NumberRule = NumberRule {
     default: Some(900),
 };
 
-/// The records of a generated stream.
+/// The number of records of a generated stream.
 pub const RECORDS: NumberRule = NumberRule {
     option: OptionName::Records,
     least: 1,
@@ -116,7 +116,7 @@ pub const RECORDS: NumberRule = NumberRule {
     default: None,
 };
 
-/// The connections that are served.
+/// The number of connections that `serve` answers.
 pub const REQUESTS: NumberRule = NumberRule {
     option: OptionName::Requests,
     least: 0,
@@ -124,7 +124,7 @@ pub const REQUESTS: NumberRule = NumberRule {
     default: None,
 };
 
-/// The receives after which a message is moved to the dead letters.
+/// How often a message is received before it is moved to the dead letters.
 pub const MAX_RECEIVES: NumberRule = NumberRule {
     option: OptionName::MaxReceives,
     least: 1,
@@ -132,7 +132,7 @@ pub const MAX_RECEIVES: NumberRule = NumberRule {
     default: None,
 };
 
-/// The words that name the commands, in the order in which a person is told them.
+/// The words that name the commands, in the order of the usage text.
 pub const COMMANDS: [&str; 11] = [
     "run", "ddb", "redrive", "replay", "init", "show", "failures", "compact", "migrate", "serve",
     "gen",
@@ -142,7 +142,7 @@ pub const COMMANDS: [&str; 11] = [
 pub const NUMBERS: [NumberRule; 6] = [CALLS, VISIBILITY, TIMEOUT, RECORDS, REQUESTS, MAX_RECEIVES];
 
 impl Verb {
-    /// The command that the word names.
+    /// Returns the command that the word names.
     pub fn named(word: &str) -> Option<Verb>
         ensures { result ≡ verb_named word.now }
     {
@@ -162,7 +162,7 @@ impl Verb {
         }
     }
 
-    /// The options that the command takes.
+    /// Returns the options that the command takes.
     pub fn options(self) -> &'static [OptionName]
         ensures { result.now ≡ options_of self }
     {
@@ -179,7 +179,7 @@ impl Verb {
 }
 
 impl OptionName {
-    /// The name, without the two dashes before it.
+    /// Returns the name, without the two dashes before it.
     pub fn name<'a>(self) -> &'a str
         ensures { result.now ≡ option_name self }
     {
@@ -197,7 +197,7 @@ impl OptionName {
         }
     }
 
-    /// Whether a value belongs to the option.
+    /// Whether the option takes a value.
     pub fn has_value(self) -> bool
         ensures { result ≡ has_value self }
     {

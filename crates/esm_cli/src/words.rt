@@ -14,8 +14,8 @@ use crate::options::read_options;
 use crate::table::Verb;
 use std::alloc::Global;
 
-/// The command that the words spell, the program's own three words left out.
-/// `BadWords` exactly where they spell none.
+/// Reads the command that the words spell; the program's own three words are left out.
+/// `BadWords` if they spell none; `OutOfMemory` if an allocation failed.
 pub fn read(alloc: Global, words: &[String]) -> Result<Command, WordsError>
     ensures spelled { IfOk result (λ c. spells (map string_bytes words.now) c) }
     ensures bad { result ≡ Err WordsError.BadWords → (c : Command) → ¬ spells (map string_bytes words.now) c }
@@ -30,7 +30,7 @@ pub fn read(alloc: Global, words: &[String]) -> Result<Command, WordsError>
     command(alloc, verb, &options)
 }
 
-/// The command that the first word names.
+/// Reads the command that the first word names.
 fn first_verb(words: &[String]) -> Option<Verb>
     ensures named { IfSome result (λ verb. (rest : List (List ℕ)) × (map string_bytes words.now ≡ verb_name verb ∷ rest)) }
     ensures none { IfNone result ((verb : Verb) (rest : List (List ℕ)) → map string_bytes words.now ≢ verb_name verb ∷ rest) }

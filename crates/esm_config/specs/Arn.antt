@@ -9,7 +9,7 @@ use Rattle.esm_model.specs.declared.config.Kind.TheVariants.{Stream, Standard, F
 use Rattle.esm_config.specs.declared.sources.Sources.{Sources}
 use Rattle.esm_config.specs.declared.sources.Sources.TheVariants.{KinesisOrSqs, DynamoDb}
 
--- what stands after the prefix, where the text begins with it
+-- what comes after the prefix, if the text begins with it
 abbrev pub strip : List ℕ → List ℕ → Option (List ℕ)
 strip prefix text = if starts_with nat_eq text prefix then Some (drop (length prefix) text) else None
 
@@ -19,16 +19,16 @@ is_colon b = b == 58
 abbrev pub is_slash : ℕ → Bool
 is_slash b = b == 47
 
--- what stands before and after the first byte that passes
+-- what comes before and after the first byte that passes
 abbrev pub cut_at : (ℕ → Bool) → List ℕ → Option (List ℕ × List ℕ)
 cut_at passes text =
     if nat_lt (position_or_len passes text) (length text) then Some (before_first passes text, after_first passes text) else None
 
--- what stands before and after the first colon
+-- what comes before and after the first colon
 abbrev pub cut : List ℕ → Option (List ℕ × List ℕ)
 cut text = cut_at is_colon text
 
--- the parts of `PREFIX REGION:ACCOUNT:RESOURCE NAME`
+-- the parts of `PREFIX REGION:ACCOUNT:RESOURCE NAME`, written without the blanks
 pub record Owned : Type 0 where
   pub region : List ℕ
   pub account : List ℕ
@@ -53,11 +53,11 @@ owned_rest resource (Some rest) = owned_region resource (cut rest)
 abbrev pub owned : List ℕ → List ℕ → List ℕ → Option Owned
 owned prefix resource text = owned_rest resource (strip prefix text)
 
--- a queue is a FIFO queue where its name ends in `.fifo`
+-- the kind of a queue by its name, which ends in `.fifo` if it is a FIFO queue's
 abbrev pub queue_kind : List ℕ → Kind
 queue_kind name = if ends_with nat_eq name (codes ".fifo") then Fifo else Standard
 
--- a Kinesis stream's, an SQS queue's, a Lambda function's
+-- the parts are those of the ARN of a Kinesis stream, an SQS queue, a Lambda function
 abbrev pub is_stream : Owned → Bool
 is_stream o = is_region o.region && (is_account o.account && is_word is_stream_byte 1 128 o.name)
 
@@ -71,16 +71,16 @@ abbrev pub is_label : Option (List ℕ) → Bool
 is_label None = false
 is_label (Some label) = is_word is_label_byte 1 64 label
 
--- NAME, and `stream/LABEL`
+-- a table's path: NAME, a slash, and `stream/LABEL`
 abbrev pub is_table_path : Option (List ℕ × List ℕ) → Bool
 is_table_path None = false
 is_table_path (Some p) = is_word is_stream_byte 3 255 p.0 && is_label (strip (codes "stream/") p.1)
 
--- the stream of a DynamoDB table, whose name here is `NAME/stream/LABEL`
+-- the parts are those of the ARN of a DynamoDB table's stream, whose name here is `NAME/stream/LABEL`
 abbrev pub is_table : Owned → Bool
 is_table o = is_region o.region && (is_account o.account && is_table_path (cut_at is_slash o.name))
 
--- the value, where it passes
+-- the value, if there is one and it passes
 abbrev pub kept : {A : Type 0} → (A → Bool) → Option A → Option A
 kept passes None = None
 kept passes (Some x) = if passes x then Some x else None
@@ -97,7 +97,7 @@ table_of text = kept is_table (owned (codes "arn:aws:dynamodb:") (codes "table/"
 abbrev pub function_arn_of : List ℕ → Option Owned
 function_arn_of text = kept is_function (owned (codes "arn:aws:lambda:") (codes "function:") text)
 
--- what a mapping reads: its ARN, the kind that this names, and the ARN's parts
+-- the source of a mapping: its ARN, the kind that the ARN names, and the ARN's parts
 pub record Source : Type 0 where
   pub arn : List ℕ
   pub kind : Kind
@@ -109,11 +109,11 @@ stream_source text o = record { arn = text; kind = Stream; parts = o }
 abbrev pub queue_source : List ℕ → Owned → Source
 queue_source text o = record { arn = text; kind = queue_kind o.name; parts = o }
 
--- a stream, or a queue
+-- a Kinesis stream, or an SQS queue
 abbrev pub source_of : List ℕ → Option Source
 source_of text = option_or (option_map (stream_source text) (stream_of text)) (option_map (queue_source text) (queue_of text))
 
--- among the sources that a table of fields reads
+-- the source, if it is among those that a table of fields reads
 abbrev pub source_among : Sources → (List ℕ → Option Source)
 source_among KinesisOrSqs = source_of
 source_among DynamoDb = λ text. option_map (stream_source text) (table_of text)

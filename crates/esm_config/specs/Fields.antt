@@ -1,6 +1,6 @@
--- The fields of a mapping, each by its own rule: what its value means, where it may have it. Times are in milliseconds.
--- A source, a pattern and a starting position depend on which sources the table reads.
--- Source: the Lambda API reference, `CreateEventSourceMapping`; that a field which is `null` counts as absent, and that a
+-- The fields of a mapping, each with its own rule: which values it may have, and what they mean. Times are in milliseconds.
+-- The rules of a source, a pattern and a starting position depend on which sources the table reads.
+-- Source: the Lambda API reference, `CreateEventSourceMapping`. That a field which is `null` counts as absent, and that a
 -- pattern over an item of a DynamoDB table is kept as one over the data of a record, is this product's own.
 use Rattle.std.specs.Prelude.{ℕ, zero, ◌*◌, ◌/◌, ◌==◌, ℤ, pos, negsuc, Bool, true, false, ◌&&◌, ◌||◌, List, [], ◌∷◌, ◌++◌, codes, length, Option, Some, None, option_and_then, option_map, nat_le, nat_lt, if◌then◌else◌, is_some, is_ok}
 use Rattle.std.specs.Str.{bytes_eq}
@@ -26,11 +26,11 @@ use Rattle.esm_config.specs.declared.sources.Sources.TheVariants.{KinesisOrSqs, 
 abbrev pub not_null : Data → Option Data
 not_null d = if is_some (as_null d) then None else Some d
 
--- the field of this name, where it is there and not `null`
+-- the field with this name, if it is there and not `null`
 abbrev pub field : List ℕ → Data → Option Data
 field name d = option_and_then not_null (get name d)
 
--- the value of the object's one member, where that has this name
+-- the value of the object's only member, if that has this name
 abbrev pub only_of : List ℕ → Members → Option Data
 only_of name no_members = None
 only_of name (member k d no_members) = if bytes_eq k name then Some d else None
@@ -41,19 +41,19 @@ only_member name d = option_and_then (only_of name) (as_object d)
 
 -- values
 
--- `missing` where the field is absent
+-- the meaning of a field, or `missing` where it is absent
 abbrev pub or_missing : {A : Type 0} → A → (Data → Option A) → Option Data → Option A
 or_missing missing means None = Some missing
 or_missing missing means (Some d) = means d
 
--- a number without fraction and exponent from `low` to `high`
+-- a number from `low` to `high`, without fraction and exponent
 abbrev pub whole_in : ℕ → ℕ → Data → Option ℕ
 whole_in low high d = kept (is_between low high) (option_and_then as_u64 (as_number d))
 
 abbrev pub milliseconds : Option ℕ → Option ℕ
 milliseconds seconds = option_map (λ s. s * 1000) seconds
 
--- -1 for none
+-- a limit; -1 means none
 abbrev pub limit_of : (ℕ → Option ℕ) → ℤ → Option (Option ℕ)
 limit_of within (pos n) = option_map Some (within n)
 limit_of within (negsuc zero) = Some None
@@ -62,13 +62,13 @@ limit_of within (negsuc _) = None
 abbrev pub limit_in : (ℕ → Option ℕ) → Data → Option (Option ℕ)
 limit_in within d = option_and_then (limit_of within) (option_and_then as_i64 (as_number d))
 
--- a field of a stream's mapping alone: in a queue's it is absent, and means this
+-- a field that only a stream's mapping may have: in a queue's it has to be absent, and then means `otherwise`
 abbrev pub of_stream : {A : Type 0} → Kind → A → (Option Data → Option A) → Option Data → Option A
 of_stream Stream otherwise means o = means o
 of_stream _ otherwise means None = Some otherwise
 of_stream _ otherwise means (Some d) = None
 
--- a field of a queue's mapping alone
+-- a field that only a queue's mapping may have
 abbrev pub of_queue : {A : Type 0} → Kind → A → (Option Data → Option A) → Option Data → Option A
 of_queue Stream otherwise means None = Some otherwise
 of_queue Stream otherwise means (Some d) = None
@@ -79,7 +79,7 @@ of_queue _ otherwise means o = means o
 abbrev pub source_in : Sources → Option Data → Option Source
 source_in sources o = option_and_then (source_among sources) (option_and_then as_str o)
 
--- a function by its plain name, and by its ARN where that is given
+-- a function by its plain name, with its ARN if the field gives that
 pub record Named : Type 0 where
   pub name : List ℕ
   pub arn : Option (List ℕ)
@@ -105,7 +105,7 @@ usual_batch_size _ = 10
 abbrev pub batch_size_in : Kind → Option Data → Option ℕ
 batch_size_in kind o = or_missing (usual_batch_size kind) (λ d. kept (is_batch_size kind) (option_and_then as_u64 (as_number d))) o
 
--- of so many seconds: a FIFO queue has no batching window, and a standard queue's batch above 10 needs one
+-- a batching window of `s` seconds is allowed: a FIFO queue has none, and a standard queue's batch above 10 requires one
 abbrev pub is_window_for : Kind → ℕ → ℕ → Bool
 is_window_for Stream size s = true
 is_window_for Standard size s = nat_le size 10 || nat_lt 0 s
@@ -128,11 +128,11 @@ are_criteria kind texts = nat_le (length texts) MAX_FILTERS && is_ok (read_patte
 abbrev pub is_object_text : List ℕ → Bool
 is_object_text text = is_some (option_and_then as_object (read text))
 
--- a pattern over an item's element, which is the data of its record
+-- the pattern over an item's element, which is the data of a record
 abbrev pub data_pattern : List ℕ → List ℕ
 data_pattern text = codes "{\"data\":" ++ (text ++ codes "}")
 
--- where it reads as a JSON object by itself
+-- that pattern, if the text by itself reads as a JSON object
 abbrev pub data_pattern_of : List ℕ → Option (List ℕ)
 data_pattern_of text = if is_object_text text then Some (data_pattern text) else None
 
@@ -140,7 +140,7 @@ abbrev pub data_patterns : List (List ℕ) → Option (List (List ℕ))
 data_patterns [] = Some []
 data_patterns (t ∷ ts) = option_and_then (λ p. option_map (λ ps. p ∷ ps) (data_patterns ts)) (data_pattern_of t)
 
--- the patterns as they are kept
+-- the patterns as the configuration keeps them
 abbrev pub patterns_among : Sources → List (List ℕ) → Option (List (List ℕ))
 patterns_among KinesisOrSqs texts = Some texts
 patterns_among DynamoDb texts = data_patterns texts
@@ -173,7 +173,7 @@ position_of text =
 abbrev pub first_position : List ℕ → Option Position
 first_position text = if bytes_eq text (codes "TRIM_HORIZON") then Some position.TrimHorizon else None
 
--- a table's stream is read from its first record
+-- a table's stream can only be read from its first record
 abbrev pub position_among : Sources → (List ℕ → Option Position)
 position_among KinesisOrSqs = position_of
 position_among DynamoDb = first_position
@@ -184,7 +184,7 @@ position_in sources kind o = of_stream kind position.TrimHorizon (λ p. option_a
 abbrev pub last_second : ℕ
 last_second = MAX_MOMENT / 1000
 
--- the moment is there exactly where the position asks for it
+-- the moment is given if and only if the position is one at a moment
 abbrev pub start_of : Position → Option Data → Option Start
 start_of position.AtTimestamp (Some d) = option_map At (milliseconds (whole_in 0 last_second d))
 start_of position.AtTimestamp None = None
@@ -214,7 +214,7 @@ age_in kind o = of_stream kind None (or_missing None (limit_in age_within)) o
 abbrev pub bisect_in : Kind → Option Data → Option Bool
 bisect_in kind o = of_stream kind false (or_missing false as_bool) o
 
--- tumbling windows need one lane a shard
+-- tumbling windows require one lane for each shard
 abbrev pub is_tumbling_for : ℕ → ℕ → Bool
 is_tumbling_for factor s = (s == 0) || (factor == 1)
 

@@ -1,4 +1,4 @@
--- A function's names as the code holds them. Only this crate's proofs cite this.
+-- The meaning of a function's names as the code holds them. Only this crate's proofs cite this.
 use Rattle.std.specs.Prelude.{option_map}
 use Rattle.esm_config.specs.Fields.{Named}
 use Rattle.esm_config.specs.declared.function.FunctionName.{FunctionName}

@@ -1,4 +1,4 @@
--- The table of fields: they are judged in its order, and the first that is refused is named; where none is, they give the
+-- The table of fields. They are judged in its order, and the first that is refused is named; if none is, they give the
 -- configuration. Source: the Lambda API reference, `CreateEventSourceMapping`; the order is this product's own.
 use Rattle.std.specs.Prelude.{ℕ, ◌++◌, Bool, List, codes, Option, Some, None, unwrap_or, Result, Ok, Err, if◌then◌else◌}
 use Rattle.serde_json.specs.Data.{Data, Members}
@@ -13,15 +13,16 @@ use Rattle.esm_config.specs.declared.param.Param.{Param}
 use Rattle.esm_config.specs.declared.param.Param.TheVariants as param
 use Rattle.esm_config.specs.declared.sources.Sources.{Sources}
 
--- what a mapping gives: the value of each field, and which fields it may not give; and which sources it may name
+-- what a mapping's object gives: which sources it may name, the value of each field, and which fields it gives though it may
+-- not
 pub record Fields : Type 0 where
   pub sources : Sources
   pub look : Param → Option Data
   pub is_barred : Param → Bool
 
--- each field as it is read
+-- what is read from the fields
 
--- what is read, and who is called
+-- the source that is read, and the function that is called
 pub record Parties : Type 0 where
   pub source : Source
   pub function : Named
@@ -33,7 +34,7 @@ pub record Batching : Type 0 where
   pub filters : List (List ℕ)
   pub item_failures : Bool
 
--- how fast a stream is read, and how long a record is tried
+-- how fast a stream is read, and how often and how long a record is tried
 pub record Pace : Type 0 where
   pub factor : ℕ
   pub retries : Option ℕ
@@ -45,12 +46,12 @@ pub record Care : Type 0 where
   pub destination : Option (List ℕ)
   pub concurrency : Option ℕ
 
--- where the field is as it must be
+-- continues with the field's value, or refuses the field if it has none that is allowed
 abbrev pub with : {A B : Type 0} → Param → Option A → (A → Result B Param) → Result B Param
 with p None go_on = Err p
 with p (Some x) go_on = go_on x
 
--- where the field may be given
+-- continues, or refuses the field if the object gives it and may not
 abbrev pub unless_barred : {B : Type 0} → Fields → Param → Result B Param → Result B Param
 unless_barred fs p go_on = if fs.is_barred p then Err p else go_on
 
@@ -96,7 +97,7 @@ care_of kind factor fs =
     with param.ScalingConfig (concurrency_in kind (fs.look param.ScalingConfig)) (λ concurrency.
     Ok (record { bisect = bisect; tumbling_ms = tumbling; destination = destination; concurrency = concurrency })))))
 
--- the ARN that is given, or that of the function's name in the source's region and account
+-- the function's ARN: the one that is given, or that of its name in the source's region and account
 abbrev pub function_arn : Source → Named → List ℕ
 function_arn source f = unwrap_or f.arn (arn_of (codes "lambda") source.parts.region source.parts.account (codes "function:" ++ f.name))
 
@@ -123,11 +124,11 @@ config p b start pace care = record {
   enabled = p.enabled;
 }
 
--- a member that is not listed is refused after all others
+-- a member that is not listed is refused, after all fields
 abbrev pub if_listed : Members → Config → Result Config Param
 if_listed members c = if only_listed members then Ok c else Err param.Unknown
 
--- the table
+-- the whole table
 abbrev pub judged : Fields → Members → Result Config Param
 judged fs members =
     and_then (parties_of fs) (λ p.

@@ -1,7 +1,7 @@
--- What an update makes of a mapping: each field that it gives stands in the place of the old mapping's, the others are as
--- `text` writes them, the function by its full ARN, and the whole is judged as a new mapping's fields are. The source and
--- the starting position stay: an update that gives them is refused. Source: the Lambda API reference,
--- `UpdateEventSourceMapping`, which has none of these three fields.
+-- The configuration after an update. Each field that the update gives replaces the old mapping's. The others are as `text`
+-- writes them, the function by its full ARN. Then all are judged as a new mapping's fields are. The source and the starting
+-- position stay: an update that gives them is refused. Source: the Lambda API reference, `UpdateEventSourceMapping`, which
+-- has none of these three fields.
 use Rattle.std.specs.Prelude.{ok_or, Bool, true, false, is_some, ◌&&◌, Option, Result}
 use Rattle.std.specs.Option.{option_or}
 use Rattle.std.specs.Result.{result_err, result_ok}
@@ -23,7 +23,7 @@ is_fixed param.StartingPosition = true
 is_fixed param.StartingPositionTimestamp = true
 is_fixed _ = false
 
--- the update's fields, and the old object's where it gives none
+-- the update's fields, and the old object's for those that it does not give
 abbrev pub updated_fields : Data → Data → Fields
 updated_fields old d = record {
   sources = KinesisOrSqs;
@@ -34,10 +34,10 @@ updated_fields old d = record {
 abbrev pub judge_update : Config → Data → Result Config Param
 judge_update old d = and_then (ok_or (as_object d) param.Body) (λ members. judged (updated_fields (config_value old) d) members)
 
--- where no field is refused
+-- the configuration, if no field is refused
 abbrev pub merged_of : Config → Data → Option Config
 merged_of old d = result_ok (judge_update old d)
 
--- the first field that is refused
+-- the first field that is refused, if one is
 abbrev pub merge_refused : Config → Data → Option Param
 merge_refused old d = result_err (judge_update old d)

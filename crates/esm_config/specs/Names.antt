@@ -40,7 +40,7 @@ listed =
 abbrev pub is_listed : List ℕ → Bool
 is_listed name = list_any (λ p. bytes_eq (name_of p) name) listed
 
--- each member is a listed field or `null`
+-- each member is a listed field or has the value `null`
 abbrev pub only_listed : Members → Bool
 only_listed no_members = true
 only_listed (member name d more) = (is_some (as_null d) || is_listed name) && only_listed more

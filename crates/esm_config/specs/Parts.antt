@@ -1,4 +1,4 @@
--- The parts of an ARN, and a source, as the code holds them. Only this crate's proofs cite this.
+-- The meanings of an ARN's parts and of a source as the code holds them. Only this crate's proofs cite this.
 use Rattle.esm_config.specs.Arn as arn
 use Rattle.esm_config.specs.declared.owned.Owned.{Owned}
 use Rattle.esm_config.specs.declared.source.Source.{Source}

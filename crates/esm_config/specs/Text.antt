@@ -20,7 +20,7 @@ whole n = number (unsigned n)
 abbrev pub seconds : ℕ → Data
 seconds ms = whole (ms / 1000)
 
--- -1 for none
+-- the number, or -1 for none
 abbrev pub whole_or_none : Option ℕ → Data
 whole_or_none None = number (negative (negsuc 0))
 whole_or_none (Some n) = whole n
@@ -35,7 +35,7 @@ abbrev pub pattern_items : List (List ℕ) → Items
 pattern_items [] = no_items
 pattern_items (t ∷ ts) = item (one_member (codes "Pattern") (string t)) (pattern_items ts)
 
--- absent where there are no patterns
+-- the filter criteria; absent where there are no patterns
 abbrev pub criteria : List (List ℕ) → Option Data
 criteria [] = None
 criteria (t ∷ ts) = Some (one_member (codes "Filters") (array (pattern_items (t ∷ ts))))
@@ -61,11 +61,11 @@ scaling n = one_member (codes "MaximumConcurrency") (whole n)
 
 -- members
 
--- a field and its value, and the members after it
+-- a field with its value, followed by the other members
 abbrev pub with : Param → Data → Members → Members
 with p d more = member (name_of p) d more
 
--- the field only where it has a value
+-- the same, but only if the field has a value
 abbrev pub with_some : Param → Option Data → Members → Members
 with_some p None more = more
 with_some p (Some d) more = with p d more
@@ -108,6 +108,6 @@ config_members c =
 abbrev pub config_value : Config → Data
 config_value c = object (config_members c)
 
--- the text with no white space
+-- the JSON text, without white space
 abbrev pub config_text : Config → List ℕ
 config_text c = compact_text (config_value c)

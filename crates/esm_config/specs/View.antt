@@ -1,4 +1,4 @@
--- What the code's values mean. Only this crate's proofs cite this.
+-- The meanings of the code's values. Only this crate's proofs cite this.
 use Rattle.std.specs.Borrow.{Bor}
 use Rattle.std.specs.Prelude.{Option, option_map}
 use Rattle.serde_json.specs.Data.{Data, object}

@@ -121,8 +121,8 @@ fn is_labelled(text: &str) -> bool
     }
 }
 
-/// Whether the text is `NAME/stream/LABEL`, a table's name of 3 to 255 letters, digits, `_`, `-`
-/// and `.`, and a stream's label of 1 to 64 of these and `:`.
+/// Whether the text is `NAME/stream/LABEL`, with a table's name of 3 to 255 letters, digits, `_`, `-` and `.`, and a
+/// stream's label of 1 to 64 of these and `:`.
 pub fn is_table_path(text: &str) -> bool
     ensures { result ≡ is_table_path (cut_at is_slash text.now) }
 {
@@ -139,7 +139,7 @@ fn is_fifo_name(text: &[u8]) -> bool
     text.ends_with(b".fifo")
 }
 
-/// Whether the name is a FIFO queue's: it ends in `.fifo`.
+/// The kind of a queue by its name: a FIFO queue's ends in `.fifo`.
 pub fn queue_kind(name: &[u8]) -> Kind
     ensures { result ≡ queue_kind name.now }
 {
@@ -160,8 +160,8 @@ fn is_fifo_queue_name(text: &[u8]) -> bool
     has_length(front, 1, 75) && are_name_bytes(front)
 }
 
-/// Whether the text names a queue of this kind: 1 to 80 letters, digits, `-` and `_`, of which
-/// `.fifo` is the end of a FIFO queue's.
+/// Whether the text names a queue of this kind: 1 to 80 letters, digits, `-` and `_`; a FIFO queue's name ends in `.fifo`,
+/// which counts among the 80.
 pub fn is_queue_name(kind: Kind, text: &[u8]) -> bool
     ensures { result ≡ is_queue_name kind text.now }
 {

@@ -1,4 +1,4 @@
-//! The fields of every mapping.
+//! The fields that every mapping may have. Each function returns `None` where the field's value is not allowed.
 ghost use Rattle.std.specs.Prelude.{◌≡◌, ◌≤◌, IsTrue};
 ghost use Rattle.serde_json.specs.View.{items_view};
 ghost use Rattle.esm_model.specs.declared.limits.TheConstants.{MAX_BATCH};
@@ -11,7 +11,7 @@ use esm_model::MAX_BATCH;
 use esm_model::config::Kind;
 use serde_json::Value;
 
-/// Whether the mapping is served, `true` where none is said.
+/// Whether the mapping is enabled; `true` where the field is absent.
 pub fn enabled_in(field: Option<&Value>) -> Option<bool>
     ensures { result ≡ enabled_in (data_of field.entry) }
 {
@@ -37,8 +37,8 @@ fn is_batch_size(kind: Kind, size: u64) -> bool
     }
 }
 
-/// Records in a batch at most: 1 to 10,000 and in a FIFO queue to 10; 100 for a stream and 10 for
-/// a queue where none is said.
+/// The maximum number of records or messages in a batch: 1 to 10,000, and for a FIFO queue 1 to 10. Where the field is
+/// absent it is 100 for a stream and 10 for a queue.
 pub fn batch_size_in(kind: Kind, field: Option<&Value>) -> Option<u32>
     ensures { result ≡ batch_size_in kind (data_of field.entry) }
 {
@@ -67,7 +67,7 @@ fn is_window_for(kind: Kind, size: u32, seconds: u64) -> bool
     }
 }
 
-/// The batching window in milliseconds, of 0 to 300 seconds, 0 where none is said.
+/// The batching window in milliseconds, from 0 to 300 seconds; 0 where the field is absent.
 pub fn window_in(kind: Kind, size: u32, field: Option<&Value>) -> Option<u64>
     ensures { result ≡ window_in kind size (data_of field.entry) }
 {
@@ -103,7 +103,7 @@ fn reports_of(items: &[Value]) -> Option<bool>
     }
 }
 
-/// Whether answers report item failures, `false` where none is said.
+/// Whether answers report item failures; `false` where the field is absent.
 pub fn item_failures_in(field: Option<&Value>) -> Option<bool>
     ensures { result ≡ item_failures_in (data_of field.entry) }
 {

@@ -70,7 +70,7 @@ fn data_pattern(alloc: Global, text: &str) -> Result<Text, AllocError>
     Ok(Text::from_vec(kept))
 }
 
-/// The pattern over the data of a record, where the text reads as a JSON object by itself.
+/// The pattern over the data of a record; `None` where the text by itself does not read as a JSON object.
 fn data_pattern_of(alloc: Global, text: &Text) -> Result<Option<Text>, OutOfMemory>
     ensures { IfOk result (λ o. o ≡ data_pattern_of text.now) }
 {
@@ -81,7 +81,7 @@ fn data_pattern_of(alloc: Global, text: &Text) -> Result<Option<Text>, OutOfMemo
     }
 }
 
-/// The patterns over the data of a record, where each text reads as a JSON object by itself.
+/// The patterns over the data of a record; `None` where a text by itself does not read as a JSON object.
 fn data_patterns(alloc: Global, texts: &[Text]) -> Result<Option<Vec<Text>>, OutOfMemory>
     ensures { IfOk result (λ o. option_map (λ v. v.items) o ≡ data_patterns texts.now) }
 {
@@ -95,7 +95,7 @@ fn data_patterns(alloc: Global, texts: &[Text]) -> Result<Option<Vec<Text>>, Out
     Ok(Some(kept))
 }
 
-/// The patterns as they are kept.
+/// The patterns as the configuration keeps them; `None` where one is refused.
 fn patterns_among(
     alloc: Global,
     sources: Sources,
@@ -109,7 +109,7 @@ fn patterns_among(
     }
 }
 
-/// The patterns of the items as they are kept.
+/// The patterns of the items, as the configuration keeps them; `None` where one is refused.
 fn patterns_in(
     alloc: Global,
     sources: Sources,
@@ -169,7 +169,7 @@ fn criteria_of(
     }
 }
 
-/// The filter patterns, of which there are none where none are said.
+/// The filter patterns; none where the field is absent. `None` where the field's value is refused.
 pub fn filters_in(
     alloc: Global,
     sources: Sources,

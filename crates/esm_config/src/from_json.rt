@@ -14,11 +14,10 @@ use esm_model::config::Config;
 use serde_json::Value;
 use std::alloc::Global;
 
-/// The configuration of a mapping's object, in the fields of `CreateEventSourceMapping` of the
-/// Lambda API reference. A field that is `null` counts as absent.
-/// `BadParam` names the first field that is refused, in the order of the table: `Unknown` comes
-/// after all others, and `Body` where the value is no object. `OutOfMemory` where there was no
-/// memory for the filters, which may be before a later field that is refused, or for the texts.
+/// Reads the configuration from a mapping's object, whose fields are those of `CreateEventSourceMapping` of the Lambda API
+/// reference. A field that is `null` counts as absent. `BadParam` names the first field that is refused, in the order of the
+/// table: `Unknown` comes after all others, and `Body` is returned if the value is no object. `OutOfMemory` is returned
+/// where there is no memory for the filters, which may be before a later field is refused, or for the texts.
 pub fn read(alloc: Global, value: &Value) -> Result<Config, ConfigError>
     ensures ok { IfOk result (λ c. config_of (view value.now) ≡ Some c) }
     ensures given { IfOk result (λ c. IsGiven c) }
@@ -30,10 +29,10 @@ pub fn read(alloc: Global, value: &Value) -> Result<Config, ConfigError>
     judged(alloc, Fields::New(Sources::KinesisOrSqs, value), members)
 }
 
-/// The configuration of a mapping's object whose source is the stream of a DynamoDB table,
-/// `arn:aws:dynamodb:REGION:ACCOUNT:table/NAME/stream/LABEL`, in the same fields. Its
-/// `StartingPosition` is `TRIM_HORIZON`; a pattern has at most 4,087 characters, reads as a JSON
-/// object by itself, and is kept as `{"data":PATTERN}`. `BadParam` and `OutOfMemory` as in `read`.
+/// Reads the configuration from a mapping's object whose source is the stream of a DynamoDB table,
+/// `arn:aws:dynamodb:REGION:ACCOUNT:table/NAME/stream/LABEL`, with the same fields. Its `StartingPosition` has to be
+/// `TRIM_HORIZON`. A pattern has at most 4,087 characters, reads as a JSON object by itself, and is kept as
+/// `{"data":PATTERN}`. `BadParam` and `OutOfMemory` are returned as by `read`.
 pub fn read_dynamo(alloc: Global, value: &Value) -> Result<Config, ConfigError>
     ensures ok { IfOk result (λ c. dynamo_config_of (view value.now) ≡ Some c) }
     ensures given { IfOk result (λ c. IsDynamoGiven c) }

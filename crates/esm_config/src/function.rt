@@ -13,11 +13,11 @@ use serde_json::Value;
 pub struct FunctionName<'a> {
     /// The plain name.
     pub name: &'a str,
-    /// The ARN, where the mapping gives it.
+    /// The ARN, if the mapping gives it.
     pub arn: Option<&'a str>,
 }
 
-/// The function that the text names: a plain name, or the ARN of a function.
+/// The function that the text names by a plain name or by its ARN; `None` where it names none.
 fn named_by(text: &str) -> Option<FunctionName<'_>>
     ensures { option_map named_of result ≡ named_by text.entry.now }
 {
@@ -36,7 +36,7 @@ fn named_by(text: &str) -> Option<FunctionName<'_>>
     }
 }
 
-/// The function that is called.
+/// The function that the mapping calls; `None` where the field is absent or names none.
 pub fn function_in(field: Option<&Value>) -> Option<FunctionName<'_>>
     ensures { option_map named_of result ≡ function_in (data_of field.entry) }
 {

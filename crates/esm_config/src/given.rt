@@ -13,12 +13,12 @@ use crate::sources::Sources;
 use crate::value::{field, not_null};
 use serde_json::Value;
 
-/// What a mapping gives for its fields.
+/// Where the values of a mapping's fields come from.
 #[derive(Clone, Copy, Debug)]
 pub enum Fields<'a> {
     /// A new mapping's object, and the sources of which it may name one.
     New(Sources, &'a Value),
-    /// An update's object, and the members of the old mapping's.
+    /// An update's object, and the members of the old mapping's object.
     Update(&'a Value, &'a [Member]),
 }
 
@@ -68,7 +68,7 @@ impl<'a> Fields<'a> {
         }
     }
 
-    /// The field's value, where it is there and not `null`.
+    /// The field's value, if it is there and not `null`; an absent field of an update has the old mapping's value.
     pub fn look(self, param: Param) -> Option<&'a Value>
         ensures { data_of result ≡ (fields_view self.entry).look param }
     {
@@ -82,7 +82,7 @@ impl<'a> Fields<'a> {
         }
     }
 
-    /// Whether the field is given where it may not be.
+    /// Whether the field is given though it may not be.
     pub fn is_barred(self, param: Param) -> bool
         ensures { result ≡ (fields_view self.entry).is_barred param }
     {

@@ -1,4 +1,4 @@
-//! The table of fields: the first that is refused, or the configuration that they give.
+//! The table of fields: the first field that is refused, or the configuration that all give.
 ghost use Rattle.std.specs.Prelude.{◌≡◌, ◌++◌, codes, option_map, IfOk};
 ghost use Rattle.serde_json.specs.View.{members_view};
 ghost use Rattle.esm_model.specs.Valid.{arn_of};
@@ -44,8 +44,8 @@ fn lambda_arn(alloc: Global, region: &str, account: &str, name: &str) -> Result<
     Ok(Text::from_vec(arn))
 }
 
-/// The ARN of the mapping's function: the one that is given, or that of its name in the region
-/// and the account of the source.
+/// The ARN of the mapping's function: the one that the mapping gives, or that of its name in the region and the account of
+/// the source.
 fn function_arn(alloc: Global, source: &Source, function: &FunctionName) -> Result<Text, AllocError>
     ensures { IfOk result (λ t. t ≡ function_arn (source_view source.now) (named_of function.now)) }
 {
@@ -91,7 +91,7 @@ fn config(
     })
 }
 
-/// The fields after those of every mapping, and the members that are not listed.
+/// Judges the fields after those that every mapping may have, and then the members that are not listed.
 fn finished(
     alloc: Global,
     parties: Parties<'_>,
@@ -116,9 +116,8 @@ fn finished(
     }
 }
 
-/// The configuration that the fields give, where the object has listed members alone. `BadParam`
-/// names the first field that is refused; `OutOfMemory` where there was no memory for the filters
-/// or the texts.
+/// The configuration that the fields give, if the object has only listed members. `BadParam` names the first field that is
+/// refused. `OutOfMemory` is returned where there is no memory for the filters or the texts.
 pub fn judged(
     alloc: Global,
     fields: Fields<'_>,

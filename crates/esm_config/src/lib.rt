@@ -1,6 +1,6 @@
-//! The fields of a mapping: which configuration a JSON object gives, what an update makes of it, and its text.
-//! Pure: a JSON value in, a configuration out; a configuration in, a text out.
-//! The fields are judged in the order of a table; the first that is refused is named.
+//! The fields of a mapping: which configuration a JSON object gives, which configuration an update leads to, and the text of
+//! a configuration. The fields are judged in the order of a table, and the first that is refused is named. Pure: a JSON
+//! value in, a configuration out; a configuration in, a text out.
 #![tactic(auto)]
 
 mod arn;

@@ -48,7 +48,7 @@ fn has_only_listed(members: &Map<String, Value>) -> bool
     members.iter().all(|(name, value)| value.is_null() || is_listed(name.as_str()))
 }
 
-/// Whether each member is a listed field or `null`.
+/// Whether each member is a listed field or has the value `null`.
 pub fn only_listed(members: &Map<String, Value>) -> bool
     ensures { result ≡ only_listed (members_view members.now.entries) }
 {

@@ -1,7 +1,7 @@
-// A member of a JSON object that is written in an order of its own.
+// A member of a JSON object whose text keeps the order of its members.
 use serde_json::Value;
 
-/// A member of an object that is written in an order of its own.
+/// A member of an object whose text keeps the order of its members.
 #[derive(Drop, Debug)]
 pub struct Member {
     pub name: &'static str,

@@ -1,4 +1,4 @@
-// Splitting the ARN of a stream, a queue or a function into region, account and name.
+// Splitting the ARN of a stream, a queue, a table's stream or a function into region, account and name.
 ghost use Rattle.std.specs.Prelude.{◌≡◌, option_map};
 ghost use Rattle.esm_config.specs.Arn.{function_arn_of, is_function, is_queue, is_stream, is_table, owned, owned_region, cut, queue_of, stream_of, table_of};
 ghost use Rattle.esm_config.specs.Parts.{parts_of};
@@ -8,7 +8,7 @@ use crate::arn::{
     queue_kind, strip,
 };
 
-/// The parts of the ARN of a stream, a queue or a function.
+/// The parts of an ARN of a stream, a queue, a table's stream or a function.
 #[derive(Clone, Copy, Debug)]
 pub struct Owned<'a> {
     pub region: &'a str,
@@ -16,7 +16,7 @@ pub struct Owned<'a> {
     pub name: &'a str,
 }
 
-/// The parts of the text `PREFIX REGION:ACCOUNT:RESOURCE NAME` without its blanks.
+/// The parts of a text of the form `PREFIX REGION:ACCOUNT:RESOURCE NAME`, without the blanks.
 fn owned_by<'a>(text: &'a str, prefix: &str, resource: &str) -> Option<Owned<'a>>
     ensures { option_map parts_of result ≡ owned prefix.now resource.now text.entry.now }
 {
@@ -45,7 +45,7 @@ fn owned_rest<'a>(rest: &'a str, resource: &str) -> Option<Owned<'a>>
     }
 }
 
-/// The parts of the ARN of a Kinesis stream.
+/// The parts of the text, if it is the ARN of a Kinesis stream.
 pub fn stream_of(text: &str) -> Option<Owned<'_>>
     ensures { option_map parts_of result ≡ stream_of text.entry.now }
 {
@@ -55,7 +55,7 @@ pub fn stream_of(text: &str) -> Option<Owned<'_>>
     }
 }
 
-/// The parts of the ARN of an SQS queue.
+/// The parts of the text, if it is the ARN of an SQS queue.
 pub fn queue_of(text: &str) -> Option<Owned<'_>>
     ensures { option_map parts_of result ≡ queue_of text.entry.now }
 {
@@ -65,7 +65,7 @@ pub fn queue_of(text: &str) -> Option<Owned<'_>>
     }
 }
 
-/// The parts of the ARN of the stream of a DynamoDB table, whose name is `NAME/stream/LABEL`.
+/// The parts of the text, if it is the ARN of a DynamoDB table's stream; their name is `NAME/stream/LABEL`.
 pub fn table_of(text: &str) -> Option<Owned<'_>>
     ensures { option_map parts_of result ≡ table_of text.entry.now }
 {
@@ -75,7 +75,7 @@ pub fn table_of(text: &str) -> Option<Owned<'_>>
     }
 }
 
-/// The parts of the ARN of a function.
+/// The parts of the text, if it is the ARN of a function.
 pub fn function_arn_of(text: &str) -> Option<Owned<'_>>
     ensures { option_map parts_of result ≡ function_arn_of text.entry.now }
 {

@@ -25,7 +25,7 @@ pub enum Param {
     TumblingWindowInSeconds,
     DestinationConfig,
     ScalingConfig,
-    /// A field that is none of these.
+    /// A member that is none of these.
     Unknown,
     /// The value is no object.
     Body,
@@ -59,12 +59,12 @@ impl Param {
     }
 }
 
-/// Why a value gave no configuration.
+/// Why a value gives no configuration.
 #[derive(Clone, Copy, Debug, PartialEq, Eq)]
 pub enum ConfigError {
-    /// The first field that is refused.
+    /// This field is the first, in the order of the table, that is refused.
     BadParam(Param),
-    /// There was no memory for the texts.
+    /// There is no memory for the filters or the texts.
     OutOfMemory,
 }
 

@@ -1,4 +1,4 @@
-/// Where a stream's mapping begins to read, as its object says it (`StartingPosition`).
+/// Where a stream's mapping begins to read, as its object says (`StartingPosition`).
 #[derive(Clone, Copy, Debug, PartialEq, Eq)]
 pub enum Position {
     TrimHorizon,

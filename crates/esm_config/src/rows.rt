@@ -1,4 +1,4 @@
-//! The rows of the table, in groups: the first field that is refused, or what the fields say.
+//! The rows of the table, in groups: each group returns the first field that is refused, or what its fields say.
 ghost use Rattle.std.specs.Prelude.{◌≡◌};
 ghost use Rattle.std.specs.Result.{result_map_both};
 ghost use Rattle.esm_config.specs.Answer.{Tells};
@@ -19,7 +19,7 @@ use esm_model::config::{Kind, Start};
 use esm_model::text::Texts;
 use std::alloc::Global;
 
-/// What is read, and who is called.
+/// The source that is read, and the function that is called.
 #[derive(Clone, Copy, Debug)]
 pub struct Parties<'a> {
     pub source: Source<'a>,
@@ -36,7 +36,7 @@ pub struct Batching {
     pub item_failures: bool,
 }
 
-/// How fast a stream is read, and how long a record is tried.
+/// How fast a stream is read, and how often and how long a record is tried.
 #[derive(Clone, Copy, Debug)]
 pub struct Pace {
     pub factor: u32,
@@ -53,7 +53,7 @@ pub struct Care<'a> {
     pub concurrency: Option<u32>,
 }
 
-/// The rows up to `Enabled`.
+/// Judges the rows up to `Enabled`.
 pub fn parties_of<'a>(fields: Fields<'a>) -> Result<Parties<'a>, Param>
     ensures { result_map_both parties_view (λ p. p) result ≡ parties_of (fields_view fields.entry) }
 {
@@ -76,8 +76,8 @@ pub fn parties_of<'a>(fields: Fields<'a>) -> Result<Parties<'a>, Param>
     }
 }
 
-/// The rows from `BatchSize` to `FunctionResponseTypes`. `OutOfMemory` where there was no memory
-/// for the filters.
+/// Judges the rows from `BatchSize` to `FunctionResponseTypes`. `OutOfMemory` is returned where there is no memory for the
+/// filters.
 pub fn batching_of(alloc: Global, kind: Kind, fields: Fields<'_>) -> Result<Batching, ConfigError>
     ensures { Tells batching_view result (batching_of kind (fields_view fields.entry)) }
 {
@@ -103,7 +103,7 @@ pub fn batching_of(alloc: Global, kind: Kind, fields: Fields<'_>) -> Result<Batc
     }
 }
 
-/// The rows `StartingPosition` and `StartingPositionTimestamp`.
+/// Judges the rows `StartingPosition` and `StartingPositionTimestamp`.
 pub fn start_field(kind: Kind, fields: Fields<'_>) -> Result<Start, Param>
     ensures { result ≡ start_field kind (fields_view fields.entry) }
 {
@@ -127,7 +127,7 @@ pub fn start_field(kind: Kind, fields: Fields<'_>) -> Result<Start, Param>
     }
 }
 
-/// The rows from `ParallelizationFactor` to `MaximumRecordAgeInSeconds`.
+/// Judges the rows from `ParallelizationFactor` to `MaximumRecordAgeInSeconds`.
 pub fn pace_of(kind: Kind, fields: Fields<'_>) -> Result<Pace, Param>
     ensures { result_map_both pace_view (λ p. p) result ≡ pace_of kind (fields_view fields.entry) }
 {
@@ -147,7 +147,7 @@ pub fn pace_of(kind: Kind, fields: Fields<'_>) -> Result<Pace, Param>
     }
 }
 
-/// The rows from `BisectBatchOnFunctionError` on.
+/// Judges the rows from `BisectBatchOnFunctionError` on.
 pub fn care_of<'a>(kind: Kind, factor: u32, fields: Fields<'a>) -> Result<Care<'a>, Param>
     ensures { result_map_both care_view (λ p. p) result ≡ care_of kind factor (fields_view fields.entry) }
 {

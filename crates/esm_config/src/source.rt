@@ -1,4 +1,4 @@
-// The source of a mapping, a stream, a queue or the stream of a table, by its ARN.
+// The source of a mapping, by its ARN: a stream, a queue or a table's stream.
 ghost use Rattle.std.specs.Prelude.{◌≡◌, option_map};
 ghost use Rattle.esm_config.specs.Arn.{source_among, source_of, stream_source, table_of};
 ghost use Rattle.esm_config.specs.Fields.{source_in};
@@ -11,7 +11,7 @@ use crate::sources::Sources;
 use esm_model::config::Kind;
 use serde_json::Value;
 
-/// What a mapping reads.
+/// The source that a mapping reads: its ARN, its kind and the ARN's parts.
 #[derive(Clone, Copy, Debug)]
 pub struct Source<'a> {
     pub arn: &'a str,
@@ -19,7 +19,7 @@ pub struct Source<'a> {
     pub parts: Owned<'a>,
 }
 
-/// The stream or the queue of this ARN.
+/// The stream or the queue with this ARN.
 fn source_of(text: &str) -> Option<Source<'_>>
     ensures { option_map source_view result ≡ source_of text.entry.now }
 {
@@ -40,7 +40,7 @@ fn source_of(text: &str) -> Option<Source<'_>>
     }
 }
 
-/// The stream of the DynamoDB table of this ARN.
+/// The stream of a DynamoDB table with this ARN.
 fn table_source(text: &str) -> Option<Source<'_>>
     ensures { option_map source_view result ≡ option_map (stream_source text.entry.now) (table_of text.entry.now) }
 {
@@ -63,7 +63,7 @@ fn source_among(sources: Sources, text: &str) -> Option<Source<'_>>
     }
 }
 
-/// What is read, by its ARN, of these sources.
+/// The source with the field's ARN, if it is among these sources.
 pub fn source_in(sources: Sources, field: Option<&Value>) -> Option<Source<'_>>
     ensures { option_map source_view result ≡ source_in sources (data_of field.entry) }
 {

@@ -1,4 +1,4 @@
-/// Which sources a table of fields reads.
+/// The sources of which a table of fields accepts one.
 #[derive(Clone, Copy, Debug, PartialEq, Eq)]
 pub enum Sources {
     /// A Kinesis stream or an SQS queue.

@@ -1,4 +1,5 @@
-//! The fields of a stream's mapping alone, and those of a queue's.
+//! The fields that only a stream's mapping may have, and the one that only a queue's may. Each function returns `None` where
+//! the field's value is not allowed; a field of the other kind has to be absent.
 ghost use Rattle.std.specs.Prelude.{◌≡◌, codes, option_and_then, option_map};
 ghost use Rattle.serde_json.specs.Find.{as_str};
 ghost use Rattle.serde_json.specs.View.{view};
@@ -50,7 +51,7 @@ fn position_among(sources: Sources, text: &str) -> Option<Position>
     }
 }
 
-/// Where a stream's mapping begins to read: that of a table's stream at its first record alone.
+/// Where a stream's mapping begins to read; a table's stream only at its first record.
 pub fn position_in(sources: Sources, kind: Kind, field: Option<&Value>) -> Option<Position>
     ensures { result ≡ position_in sources kind (data_of field.entry) }
 {
@@ -86,7 +87,7 @@ fn start_of(position: Position, field: Option<&Value>) -> Option<Start>
     }
 }
 
-/// The position with its moment, which is there exactly where the position asks for it.
+/// The position with its moment in milliseconds, which is given if and only if the position is `AT_TIMESTAMP`.
 pub fn start_in(kind: Kind, position: Position, field: Option<&Value>) -> Option<Start>
     ensures { result ≡ start_in kind position (data_of field.entry) }
 {
@@ -97,7 +98,7 @@ pub fn start_in(kind: Kind, position: Position, field: Option<&Value>) -> Option
     }
 }
 
-/// Lanes of a shard: 1 to 10, 1 where none is said.
+/// The number of lanes of a shard: 1 to 10, and 1 where the field is absent.
 pub fn factor_in(kind: Kind, field: Option<&Value>) -> Option<u32>
     ensures { result ≡ factor_in kind (data_of field.entry) }
 {
@@ -131,8 +132,8 @@ fn retries_of(field: Option<&Value>) -> Option<Option<u32>>
     }
 }
 
-/// Retry attempts at most, 0 to 10,000; any number for -1 and where none is said, as the inner
-/// `None`.
+/// The maximum number of retry attempts, 0 to 10,000. The inner `None` means any number: for -1, and where the field is
+/// absent.
 pub fn retries_in(kind: Kind, field: Option<&Value>) -> Option<Option<u32>>
     ensures { result ≡ retries_in kind (data_of field.entry) }
 {
@@ -163,8 +164,8 @@ fn age_of(field: Option<&Value>) -> Option<Option<u64>>
     }
 }
 
-/// The greatest age of a record in milliseconds, of 60 to 604,800 seconds; any for -1 and where
-/// none is said, as the inner `None`.
+/// The maximum age of a record in milliseconds, from 60 to 604,800 seconds. The inner `None` means any age: for -1, and
+/// where the field is absent.
 pub fn age_in(kind: Kind, field: Option<&Value>) -> Option<Option<u64>>
     ensures { result ≡ age_in kind (data_of field.entry) }
 {
@@ -175,7 +176,7 @@ pub fn age_in(kind: Kind, field: Option<&Value>) -> Option<Option<u64>>
     }
 }
 
-/// Whether a failed batch is halved, `false` where none is said.
+/// Whether a failed batch is halved; `false` where the field is absent.
 pub fn bisect_in(kind: Kind, field: Option<&Value>) -> Option<bool>
     ensures { result ≡ bisect_in kind (data_of field.entry) }
 {
@@ -201,8 +202,8 @@ fn tumbling_of(factor: u32, field: Option<&Value>) -> Option<u64>
     }
 }
 
-/// The length of a tumbling window in milliseconds, of 0 to 900 seconds; above 0 with one lane
-/// alone; 0 where none is said.
+/// The length of a tumbling window in milliseconds, from 0 to 900 seconds; above 0 only with one lane; 0 where the field is
+/// absent.
 pub fn tumbling_in(kind: Kind, factor: u32, field: Option<&Value>) -> Option<u64>
     ensures { result ≡ tumbling_in kind factor (data_of field.entry) }
 {
@@ -244,8 +245,8 @@ fn destination_of(value: &Value) -> Option<Option<&str>>
     }
 }
 
-/// The failure destination, where one is said: a text that begins with `arn:aws:sqs:`, of at most
-/// 350 bytes.
+/// The failure destination: a text that begins with `arn:aws:sqs:`, of at most 350 bytes. The inner `None` means that the
+/// field is absent.
 pub fn destination_in(kind: Kind, field: Option<&Value>) -> Option<Option<&str>>
     ensures { option_map (λ o. option_map (λ s. s.now) o) result ≡ destination_in kind (data_of field.entry) }
 {
@@ -268,7 +269,7 @@ fn concurrency_of(value: &Value) -> Option<Option<u32>>
     }
 }
 
-/// The maximum concurrency of a queue's mapping, 2 to 1,000, where one is said.
+/// The maximum concurrency of a queue's mapping, 2 to 1,000. The inner `None` means that the field is absent.
 pub fn concurrency_in(kind: Kind, field: Option<&Value>) -> Option<Option<u32>>
     ensures { result ≡ concurrency_in kind (data_of field.entry) }
 {

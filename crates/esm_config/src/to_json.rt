@@ -19,7 +19,7 @@ use esm_model::config::{Config, Kind};
 use serde_json::Value;
 use std::alloc::{AllocFailed, Global};
 
-/// The members, and after them this field.
+/// Adds the field after the members.
 #[tactic(auto, using(crate::proofs::Members::members_of_push))]
 fn with(
     mut members: Vec<Member>,
@@ -33,7 +33,7 @@ fn with(
     Ok(members)
 }
 
-/// The members, and after them this field, where it has a value.
+/// Adds the field after the members, if it has a value.
 #[tactic(auto, using(crate::proofs::Members::and_none))]
 fn with_some(
     members: Vec<Member>,
@@ -101,7 +101,7 @@ fn kind_settings(
     }
 }
 
-/// The members, and after them the configuration's from `BatchSize` on, in the order of the table.
+/// Adds the configuration's members from `BatchSize` on, in the order of the table, after those given.
 pub fn settings(
     alloc: Global,
     before: Vec<Member>,
@@ -133,8 +133,8 @@ pub fn config_members(alloc: Global, config: &Config) -> Result<Vec<Member>, Out
     Ok(settings(alloc, m3, config)?)
 }
 
-/// The JSON text of the configuration: every field of its kind that has a value, defaults
-/// included, in the order of the table, the function by its full ARN.
+/// The JSON text of the configuration: every field of its kind that has a value, defaults included, in the order of the
+/// table. The function is named by its full ARN.
 pub fn config_string(alloc: Global, config: &Config) -> Result<String, OutOfMemory>
     ensures { IfOk result (λ text. string_bytes text ≡ config_text config.now) }
 {

@@ -13,12 +13,11 @@ use esm_model::config::Config;
 use serde_json::Value;
 use std::alloc::Global;
 
-/// The configuration after an update, in the fields of `UpdateEventSourceMapping` of the Lambda
-/// API reference: each field that the update gives stands in the place of the old mapping's, and
-/// the whole is judged as a new mapping's fields are. A field that is `null` counts as absent.
-/// `EventSourceArn`, `StartingPosition` and `StartingPositionTimestamp` stay as they are.
-/// `BadParam` names the first field that is refused, as in `read`, these three in their places.
-/// `OutOfMemory` as in `read`. The old configuration is not changed.
+/// The configuration after an update, whose fields are those of `UpdateEventSourceMapping` of the Lambda API reference. Each
+/// field that the update gives replaces the old mapping's, and then all are judged as a new mapping's fields are. A field
+/// that is `null` counts as absent. `EventSourceArn`, `StartingPosition` and `StartingPositionTimestamp` cannot be changed:
+/// an update that gives one of them is refused. `BadParam` names the first field that is refused, as in `read`, these three
+/// in their places. `OutOfMemory` is returned as by `read`. The old configuration is unchanged.
 pub fn merge(alloc: Global, old: &Config, value: &Value) -> Result<Config, ConfigError>
     ensures ok { IfOk result (λ c. merged_of old.now (view value.now) ≡ Some c) }
     ensures given { IfOk result (λ c. IsGiven c) }

@@ -14,7 +14,7 @@ pub fn not_null(value: &Value) -> Option<&Value>
     if value.is_null() { None } else { Some(value) }
 }
 
-/// The field of this name, where it is there and not `null`.
+/// The field with this name, if it is there and not `null`.
 pub fn field<'a>(value: &'a Value, name: &str) -> Option<&'a Value>
     ensures { data_of result ≡ field name.now (view value.entry.now) }
 {
@@ -43,7 +43,7 @@ fn only_of<'a>(members: &'a Map<String, Value>, name: &str) -> Option<&'a Value>
     }
 }
 
-/// The value of the object's one member, where that has this name.
+/// The value of the object's only member, if that has this name.
 pub fn only_member<'a>(value: &'a Value, name: &str) -> Option<&'a Value>
     ensures { data_of result ≡ only_member name.now (view value.entry.now) }
 {
@@ -53,7 +53,7 @@ pub fn only_member<'a>(value: &'a Value, name: &str) -> Option<&'a Value>
     }
 }
 
-/// The text of the object's one member, where that has this name.
+/// The text of the object's only member, if that has this name and is a text.
 pub fn only_text<'a>(value: &'a Value, name: &str) -> Option<&'a str>
     ensures { option_map (λ s. s.now) result ≡ option_and_then as_str (only_member name.now (view value.entry.now)) }
 {
@@ -63,7 +63,7 @@ pub fn only_text<'a>(value: &'a Value, name: &str) -> Option<&'a str>
     }
 }
 
-/// A number without fraction and exponent from `low` to `high`.
+/// The number, if it is one from `low` to `high` without fraction and exponent.
 pub fn whole_in(value: &Value, low: u64, high: u64) -> Option<u64>
     ensures number { result ≡ whole_in low high (view value.now) }
     ensures within { IfSome result (λ n. n ≤ high) }
@@ -74,7 +74,7 @@ pub fn whole_in(value: &Value, low: u64, high: u64) -> Option<u64>
     }
 }
 
-/// Such a number, and `missing` where the field is absent.
+/// The same, but `missing` where the field is absent.
 pub fn whole_or(field: Option<&Value>, missing: u64, low: u64, high: u64) -> Option<u64>
     requires { missing ≤ high }
     ensures number { result ≡ or_missing missing (whole_in low high) (data_of field.entry) }
@@ -86,7 +86,7 @@ pub fn whole_or(field: Option<&Value>, missing: u64, low: u64, high: u64) -> Opt
     }
 }
 
-/// A truth value, and `missing` where the field is absent.
+/// A truth value, or `missing` where the field is absent.
 pub fn truth_or(field: Option<&Value>, missing: bool) -> Option<bool>
     ensures { result ≡ or_missing missing as_bool (data_of field.entry) }
 {

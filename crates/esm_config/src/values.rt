@@ -1,4 +1,4 @@
-//! The values of a configuration's fields.
+//! The JSON values of a configuration's fields.
 ghost use Rattle.std.specs.Prelude.{◌≡◌, codes, IfOk, option_map};
 ghost use Rattle.serde_json.specs.Data.{string};
 ghost use Rattle.serde_json.specs.View.{items_view, view};
@@ -11,14 +11,14 @@ use esm_model::text::Text;
 use serde_json::{Value, json};
 use std::alloc::{AllocError, Global};
 
-/// The whole seconds of so many milliseconds.
+/// The milliseconds as whole seconds.
 pub fn seconds(ms: u64) -> Value
     ensures { view result ≡ seconds ms }
 {
     Value::from(ms / 1000)
 }
 
-/// The number, and -1 for none.
+/// The number, or -1 for none.
 pub fn whole_or_none(number: Option<u32>) -> Value
     ensures { view result ≡ whole_or_none number }
 {
@@ -28,7 +28,7 @@ pub fn whole_or_none(number: Option<u32>) -> Value
     }
 }
 
-/// The whole seconds of so many milliseconds, and -1 for none.
+/// The milliseconds as whole seconds, or -1 for none.
 pub fn seconds_or_none(ms: Option<u64>) -> Value
     ensures { view result ≡ seconds_or_none ms }
 {
@@ -54,7 +54,7 @@ fn pattern_items(alloc: Global, texts: &[Text]) -> Result<Vec<Value>, OutOfMemor
     Ok(items)
 }
 
-/// The filter criteria, where there are patterns.
+/// The filter criteria, if there are patterns.
 pub fn criteria(alloc: Global, texts: &[Text]) -> Result<Option<Value>, OutOfMemory>
     ensures { IfOk result (λ o. option_map view o ≡ criteria texts.now) }
 {
@@ -73,7 +73,7 @@ fn filters(alloc: Global, items: Value) -> Result<Value, AllocError>
     json!(in alloc; {"Filters": items})
 }
 
-/// What answers report.
+/// What answers report: item failures, or nothing.
 pub fn response_types(alloc: Global, item_failures: bool) -> Result<Value, AllocError>
     ensures { IfOk result (λ v. view v ≡ response_types item_failures) }
 {
@@ -94,14 +94,14 @@ fn position_name(start: Start) -> &'static str
     }
 }
 
-/// Where the stream is read from.
+/// The position from which the stream is read.
 pub fn position(alloc: Global, start: Start) -> Result<Value, AllocError>
     ensures { IfOk result (λ v. view v ≡ position start) }
 {
     Value::try_from_str(alloc, position_name(start))
 }
 
-/// The moment that the position asks for, in seconds.
+/// The moment of the position in seconds, if it is a position at a moment.
 pub fn timestamp(start: Start) -> Option<Value>
     ensures { option_map view result ≡ timestamp start }
 {
@@ -117,7 +117,7 @@ fn on_failure(alloc: Global, text: &str) -> Result<Value, AllocError>
     json!(in alloc; {"OnFailure": {"Destination": text}})
 }
 
-/// The failure destination, where there is one.
+/// The failure destination, if there is one.
 pub fn destination(alloc: Global, text: &Option<Text>) -> Result<Option<Value>, AllocError>
     ensures { IfOk result (λ o. option_map view o ≡ option_map on_failure text.now) }
 {
@@ -133,7 +133,7 @@ fn scaling(alloc: Global, most: u32) -> Result<Value, AllocError>
     json!(in alloc; {"MaximumConcurrency": most})
 }
 
-/// The maximum concurrency, where there is one.
+/// The maximum concurrency, if there is one.
 pub fn concurrency(alloc: Global, most: Option<u32>) -> Result<Option<Value>, AllocError>
     ensures { IfOk result (λ o. option_map view o ≡ option_map scaling most) }
 {

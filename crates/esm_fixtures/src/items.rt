@@ -21,8 +21,8 @@ fn base64_of(alloc: Global, bytes: &[u8]) -> Result<String, AllocError>
     STANDARD.encode(alloc, bytes)
 }
 
-/// The record of shard 0 with this sequence number, partition key and data, which arrived at moment 0.
-/// `BadSeq` exactly where the text is not that of a sequence number.
+/// Returns the record of shard 0 with this sequence number, partition key and data, which arrived at moment 0. `BadSeq`
+/// if and only if the text is not a sequence number.
 pub fn record_of(
     alloc: Global,
     sequence: &str,
@@ -47,7 +47,7 @@ pub fn record_of(
     }
 }
 
-/// The message of a standard queue with this id and body, which was sent at moment 0.
+/// Returns the message of a standard queue with this id and body, which was sent at moment 0.
 pub fn message_of(alloc: Global, id: &str, body: &str) -> Result<Message, AllocError>
     ensures { IfOk result (λ m. m ≡ message id.now None body.now) }
 {

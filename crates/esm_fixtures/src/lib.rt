@@ -1,4 +1,4 @@
-//! What tests of several crates build: the texts, mappings, records and messages of the worked examples, the bytes of
+//! What the tests of several crates build: the texts, mappings, records and messages of the worked examples, the bytes of
 //! files, and disks and pairs of journals in memory.
 #![tactic(auto)]
 

@@ -11,14 +11,14 @@ use std::alloc::{AllocError, Global};
 pub const STREAM_MAPPING: &str =
     "{\"EventSourceArn\":\"arn:aws:kinesis:us-east-1:123456789012:stream/s\",\"FunctionName\":\"f\",\"StartingPosition\":\"TRIM_HORIZON\"";
 
-/// A text of these characters.
+/// Returns a text of these characters.
 pub fn text(alloc: Global, chars: &str) -> Result<Text, AllocError>
     ensures { IfOk result (λ t. t ≡ chars.now) }
 {
     Ok(Text::from_vec(String::from_str(alloc, chars)?))
 }
 
-/// The mapping of the stream `s` to the function `f`, each field at its default.
+/// Returns the mapping of the stream `s` to the function `f`, with each field at its default.
 pub fn stream_mapping(alloc: Global) -> Result<Config, AllocError>
     ensures { IfOk result (λ c. c ≡ plain_mapping) }
 {
@@ -50,7 +50,7 @@ pub fn stream_mapping(alloc: Global) -> Result<Config, AllocError>
     })
 }
 
-/// The mapping of the standard queue `q` to the function `f`, each field at its default.
+/// Returns the mapping of the standard queue `q` to the function `f`, with each field at its default.
 pub fn queue_mapping(alloc: Global) -> Result<Config, AllocError>
     ensures { IfOk result (λ c. c ≡ queue_mapping Standard) }
 {

@@ -1,4 +1,4 @@
--- What `init` leaves of the four disks, and why it answers so. This product's own.
+-- What `init` leaves of the four disks, and why it ends so. This product's own.
 use Rattle.std.specs.Prelude.{◌≡◌, ◌≢◌, ◌≤◌, ◌<◌, ℕ, true, List, length}
 use Rattle.esm_io.specs.Faults.{Rose}
 use Rattle.esm_io.specs.Images.{LeavesOnly, Only}
@@ -43,7 +43,7 @@ place_of file.Spare = 1
 place_of file.Failures = 2
 place_of file.Registry = 3
 
--- the file has so many bytes, and those before it have none
+-- the file has `size` bytes, and those before it have none
 pub record IsFirstNotEmpty {D : Type 0} (m : DiskMeaning D) (disks : Disks D) (f : FileName) (size : ℕ) : Type 0 where
   pub size_is : size ≡ size_in m disks f
   pub not_empty : size ≢ 0
@@ -53,7 +53,7 @@ pub record IsFirstNotEmpty {D : Type 0} (m : DiskMeaning D) (disks : Disks D) (f
 abbrev pub AreOnlyRead : {D : Type 0} → DiskMeaning D → Disks D → Disks D → Type 0
 AreOnlyRead m old new = (f : FileName) → IsOnlyRead m (disk_of old f) (disk_of new f)
 
--- why it answers so
+-- why it ends so
 abbrev pub IsInitEnd : {D : Type 0} → DiskMeaning D → Disks D → Disks D → InitEnd → Type 0
 IsInitEnd m old new Done = (f : FileName) → Makes m (fresh_bytes f) (disk_of old f) (disk_of new f)
 IsInitEnd m old new (NotEmpty f size) = AreHonest m old → IsFirstNotEmpty m old f size × AreOnlyRead m old new

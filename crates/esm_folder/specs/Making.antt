@@ -1,4 +1,4 @@
--- What the making of the files leaves, after the four lengths were looked at. Only this crate's proofs cite this.
+-- What the making of the files leaves, after the four lengths were read. Only this crate's proofs cite this.
 use Rattle.std.specs.Prelude.{◌≡◌, ◌≢◌, ℕ, true, length, Result, Ok, Err}
 use Rattle.esm_io.specs.Faults.{Rose}
 use Rattle.esm_io.specs.Meanings.{DiskMeaning}
@@ -11,7 +11,7 @@ use Rattle.esm_model.specs.declared.names.FileName.{FileName}
 use Rattle.esm_folder.specs.declared.files.InitEnd.{InitEnd}
 use Rattle.esm_folder.specs.declared.files.InitEnd.TheVariants.{Done, NotEmpty, DiskFault}
 
--- an honest disk has so many bytes
+-- an honest disk has `size` bytes
 abbrev pub HasSize : {D : Type 0} → DiskMeaning D → D → ℕ → Type 0
 HasSize m disk size = m.honest disk ≡ true → (size ≡ length (m.content disk)) × (size ≢ 0)
 
@@ -26,7 +26,7 @@ StopsFor m old new (why.NotEmpty size) = HasSize m old size
 StopsFor m old new why.DiskFault = Rose (m.faults old) (m.faults new)
 StopsFor m old new why.OutOfMemory = Unit {0}
 
--- the answer, where the making of this file stopped
+-- how `init` ends, if the making of this file stopped
 abbrev pub end_of : FileName → InitError → Result InitEnd OutOfMemory
 end_of f (why.NotEmpty size) = Ok (NotEmpty f size)
 end_of f why.DiskFault = Ok DiskFault

@@ -20,30 +20,30 @@ use Rattle.esm_folder.specs.Upkeep.{AreHonest, AreOnlyRead, found}
 use Rattle.esm_folder.specs.declared.ending.UpkeepEnd.{UpkeepEnd}
 use Rattle.esm_folder.specs.declared.ending.UpkeepEnd.TheVariants as end
 
--- the answer where the file was not opened
+-- how a command ends, if the file was not opened
 abbrev pub end_of_file : JournalFile → OpenError → Result UpkeepEnd OutOfMemory
 end_of_file name (why.NotAJournal first) = Ok (end.NotAJournal name)
 end_of_file name (why.Damaged place) = Ok (end.Damaged name place)
 end_of_file name why.DiskFault = Ok end.DiskFault
 end_of_file name why.OutOfMemory = Err (record {})
 
--- the answer where a payload is bad
+-- how a command ends, if a payload is bad
 abbrev pub end_of_payloads : SaysError → Result UpkeepEnd OutOfMemory
 end_of_payloads (judged.BadPayload index) = Ok (end.BadPayload file.Journal index)
 end_of_payloads judged.OutOfMemory = Err (record {})
 
--- what `show` answers of these payloads
+-- how `show` ends over these payloads
 abbrev pub IsJudged : List (List ℕ) → UpkeepEnd → Type 0
 IsJudged payloads (end.Shown summary) = IsShown payloads summary
 IsJudged payloads (end.BadPayload name index) = (name ≡ file.Journal) × IsFirstBad payloads (judged.BadPayload index)
 IsJudged payloads _ = ⊥
 
--- what `failures` answers of them
+-- how `failures` ends over them
 abbrev pub IsListed : List (List ℕ) → UpkeepEnd → Type 0
 IsListed payloads (end.Listed lines) = lines ≡ failure_lines payloads
 IsListed payloads _ = ⊥
 
--- and what `migrate` answers of those of a pair of this version
+-- how `migrate` ends over those of a pair of this version
 abbrev pub IsJudgedMigration : List (List ℕ) → ℕ → UpkeepEnd → Type 0
 IsJudgedMigration payloads was (end.Migrated count) = (are_good (reverse payloads) ≡ true) × (count ≡ length payloads) × (was ≢ 2)
 IsJudgedMigration payloads was end.WasVersion2 = (are_good (reverse payloads) ≡ true) × (was ≡ 2)
@@ -56,8 +56,8 @@ pub record IsOpenedPair {D : Type 0} (m : DiskMeaning D) (journal spare : D) (pa
   pub keeps : AreHonest m journal spare → PairKeeps m (header_of 2) pair.epoch pair.payloads pair.used pair.spare
   pub only_read : AreOnlyRead m journal spare (first_disk pair) (second_disk pair)
 
--- The list was written over the disk of the pair that is not in use, in whole or in part, which is now this one. Both are
--- handed back in the order in which they were handed in.
+-- The list was written, in whole or in part, over the disk of the pair that was not in use, which is now `new`. Both disks
+-- are returned in the order in which they were handed in.
 pub record IsOverwritten {D : Type 0} (m : DiskMeaning D) (pair : PairState D) (list : List (List ℕ)) (new journal spare : D) : Type 0 where
   pub journal_is : journal ≡ (if pair.swapped then new else pair.used)
   pub spare_is : spare ≡ (if pair.swapped then pair.used else new)

@@ -1,4 +1,4 @@
--- What `show` tells of a journal: its shards by rising number, of each how many places have a fate and how many from 0 on
+-- What `show` reports of a journal: its shards by rising number, of each how many places have a fate and how many from 0 on
 -- have one without a gap, and how many messages were deleted. This product's own.
 use Rattle.std.specs.Prelude.{◌≡◌, ◌<◌, ℕ, nat_eq, true, List, length, map, None, is_some, reverse}
 use Rattle.std.specs.List.{All, list_any}
@@ -26,7 +26,7 @@ pub record IsSummary (t : SaidLists) (s : Summary) : Type 0 where
   pub numbers : All (IsShard t) s.shards.items
   pub deleted : s.deleted ≡ length t.deletions
 
--- the payloads, the oldest first, are good, and say what is told
+-- the payloads, the oldest first, are good, and say what is shown
 pub record IsShown (payloads : List (List ℕ)) (s : Summary) : Type 0 where
   pub good : are_good (reverse payloads) ≡ true
   pub lists : SaidLists

@@ -53,7 +53,7 @@ AreSettled m journal spare = Only (m.content journal) (m.image journal) × Only 
 abbrev pub found : {D : Type 0} → DiskMeaning D → (journal spare : D) → Opening
 found m journal spare = pair_opened (header_of 2) (m.content journal) (m.content spare)
 
--- for a list that is to be written with the next epoch; where there is none, its place counts as damaged
+-- for a list that is to be written with the next epoch; if there is none, its place counts as damaged
 abbrev pub found_to_write : {D : Type 0} → DiskMeaning D → (journal spare : D) → Opening
 found_to_write m journal spare = with_next_epoch (found m journal spare)
 
@@ -67,8 +67,8 @@ AreFound honest opening payloads = honest → (epoch : ℕ) × (opening ≡ Hold
 
 -- refusals
 
--- Why a file was refused, by what opening it finds where its disks are honest; `rose` holds where a disk failed, `kept`
--- where nothing was written.
+-- Why a file was refused, by what opening it finds if its disks are honest; `rose` holds if a disk failed, `kept` if nothing
+-- was written.
 abbrev pub IsRefused : JournalFile → (honest rose kept : Type 0) → Opening → UpkeepEnd → Type 0
 IsRefused name honest rose kept opening (end.NotAJournal f) = (f ≡ name) × (honest → opening ≡ Foreign) × kept
 IsRefused name honest rose kept opening (end.Damaged f place) = (f ≡ name) × (honest → opening ≡ Damaged place) × kept
@@ -162,7 +162,8 @@ OpenToOldOrCompacted epoch payloads one other =
     (pair_opened (header_of 2) one other ≡ Holding epoch payloads)
     ⊎ ((list : List (List ℕ)) × AreCompacted payloads list × (pair_opened (header_of 2) one other ≡ Holding (epoch + 1) list))
 
--- and so does what a crash at any moment of the call leaves, whatever the answer, of a pair that opened to these payloads
+-- what a crash at any moment of the call leaves opens so, whatever the answer, if the pair opened to these payloads and each
+-- disk had one image
 abbrev pub IsCompacting : {D : Type 0} → DiskMeaning D → (journal spare journal' spare' : D) → Type 0
 IsCompacting m journal spare journal' spare' =
     AreHonest m journal spare → AreSettled m journal spare → (epoch : ℕ) (payloads : List (List ℕ)) → found m journal spare ≡ Holding epoch payloads →
@@ -187,7 +188,7 @@ pub record HasFound {D : Type 0} (m : DiskMeaning D) (journal spare journal' spa
   pub are_found : AreFound (AreHonest m journal spare) (found_of_any_version m journal spare) payloads
   pub only_read : AreOnlyRead m journal spare journal' spare'
 
--- why it ended so; a bad payload stands in the new list as it stood in the old one
+-- why it ended so; a bad payload is in the new list as it was in the old one
 abbrev pub IsMigrateEnd : {D : Type 0} → DiskMeaning D → (journal spare journal' spare' : D) → UpkeepEnd → Type 0
 IsMigrateEnd m journal spare journal' spare' (end.Migrated count) =
     (payloads : List (List ℕ)) × HasMigrated m journal spare journal' spare' payloads × (are_good (reverse payloads) ≡ true) × (count ≡ length payloads)
@@ -198,8 +199,8 @@ IsMigrateEnd m journal spare journal' spare' (end.BadPayload name index) =
     × (name ≡ file.Journal) × IsFirstBad payloads (judged.BadPayload index)
 IsMigrateEnd m journal spare journal' spare' e = IsRefusedPair m journal spare journal' spare' (found_of_any_version m journal spare) e
 
--- What a crash at any moment of the call leaves, whatever the answer: of a pair of version 1 that opened it opens as
--- version 1 to its payloads, or as version 2 to the same. A pair of version 2 is only read.
+-- What a crash at any moment of the call leaves, whatever the answer: of a pair of version 1 that opened, each disk with one
+-- image, it opens as version 1 to its payloads, or as version 2 to the same. A pair of version 2 is only read.
 pub record IsMigrating {D : Type 0} (m : DiskMeaning D) (journal spare journal' spare' : D) : Type 0 where
   pub version_1 : AreHonest m journal spare → AreSettled m journal spare → is_version_2 (m.content journal) (m.content spare) ≡ false
       → IsMoving m (m.content journal) (m.content spare) journal spare journal' spare'

@@ -26,7 +26,7 @@ shard_text s = codes "shard " ++ shard_id s.shard ++ codes " given " ++ decimal 
 abbrev pub shard_lines : List ShardSummary → List ℕ
 shard_lines shards = flat_map (λ s. line (shard_text s)) shards
 
--- a line for a queue, where a message was deleted
+-- a line for a queue, if a message was deleted
 abbrev pub deleted_line : ℕ → List ℕ
 deleted_line n = if n == 0 then [] else line (codes "queue deleted " ++ decimal n)
 

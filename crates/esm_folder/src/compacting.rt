@@ -1,4 +1,4 @@
-// A shorter list that says the same.
+// The command `compact`: a shorter list that says the same.
 ghost use Rattle.std.specs.Prelude.{◌≡◌, ◌<◌, false, IfOk, OnErr};
 ghost use Rattle.esm_io.specs.Meanings.{disk as meaning};
 ghost use Rattle.esm_journal.specs.File.{AreShort};
@@ -14,7 +14,7 @@ use esm_journal_state::compacted;
 use esm_model::{Bytes, OutOfMemory};
 use std::alloc::Global;
 
-/// The place of the epoch in a file, which counts as damaged where there is no next one.
+/// The place of the epoch in a file, which counts as damaged if there is no next one.
 const EPOCH_PLACE: u64 = 8;
 
 /// Writes the list that says the same as the pair's payloads to the disk that is not in use.
@@ -76,10 +76,11 @@ fn compact_pair<D: Disk>(alloc: Global, pair: Pair<D>) -> PairEnded<D>
     }
 }
 
-/// Opens a mapping's journal and its spare, and writes the list that says the same to the disk that is not in use. The
-/// file, its damage or its first bad payload is named where it has one, an epoch without a next one as damage at place 8;
-/// then, and after want of memory, nothing was written. `DiskFault` only where a count of faults rose. A crash at any
-/// moment leaves a pair that opens to the old list or to the new one.
+/// Opens a mapping's journal and its spare, and writes the list that says the same to the disk that is not in use. Refuses a
+/// pair that is none (`NotAJournal`), that is damaged (`Damaged`, with the place) or that has a bad payload (`BadPayload`,
+/// with the index of the first); an epoch without a next one is damage at place 8. Then, and after an allocation failed,
+/// nothing was written. Ends with `DiskFault` only if a count of faults rose. If each disk had one image before, as a synced
+/// one has, a crash at any moment leaves a pair that opens to the old list or to the new one.
 pub fn compact<D: Disk>(alloc: Global, journal: D, spare: D) -> PairEnded<D>
     ensures end { IfOk result.end (IsCompactEnd (meaning D.Disk) journal spare result.journal result.spare) }
     ensures images { IsCompacting (meaning D.Disk) journal spare result.journal result.spare }

@@ -5,13 +5,13 @@ ghost use Rattle.esm_folder.specs.UpkeepText.{file_name, upkeep_status};
 use crate::summary::Summary;
 use esm_model::{Bytes, OutOfMemory};
 
-/// A file is no journal, is damaged, or has a bad payload.
+/// The exit status if a file is no journal, is damaged, or has a bad payload.
 const REFUSED: u8 = 8;
 
-/// A disk failed.
+/// The exit status if a disk failed.
 const DISK_FAULT: u8 = 6;
 
-/// A file of a folder, by whose name a refusal is told. A pair is named by its journal.
+/// A file of a folder, as a refusal names it. A pair is named by its journal.
 #[derive(Clone, Copy, Debug, PartialEq, Eq)]
 pub enum JournalFile {
     Journal,
@@ -39,23 +39,23 @@ pub enum UpkeepEnd {
     Listed { lines: Bytes },
     /// The journal's payloads, `before` in number, were rewritten as `after`.
     Compacted { before: u64, after: u64 },
-    /// So many payloads were brought to version 2.
+    /// This many payloads were brought to version 2.
     Migrated { count: u64 },
     /// The pair is of version 2 already.
     WasVersion2,
-    /// The file does not begin with a journal's header; of a pair, neither file is sealed.
+    /// The file does not begin with a journal's header; of a pair, neither file is in use.
     NotAJournal { file: JournalFile },
     /// The file is damaged at this place, in bytes from its start.
     Damaged { file: JournalFile, place: u64 },
-    /// The payload with this index, counted from 0, is the first that is none of a mapping's journal, or that is bad
+    /// The payload with this index, counted from 0, is the first that is no payload of a mapping's journal, or that is bad
     /// after those before it.
     BadPayload { file: JournalFile, index: u32 },
-    /// A disk's count of faults rose.
+    /// A call of a disk failed: its count of faults rose.
     DiskFault,
 }
 
 impl UpkeepEnd {
-    /// The exit status that tells of it: 0 done, 6 a disk failed, 8 a file is refused.
+    /// The exit status: 0 done, 6 a disk failed, 8 a file is refused.
     pub fn status(&self) -> u8
         ensures { result ≡ upkeep_status self.now }
     {

@@ -1,4 +1,4 @@
-// Making the four files of a folder by `init`, and how that ended.
+// Makes the four files of a folder, for `init`, and how that ended.
 ghost use Rattle.std.specs.Prelude.{IfOk};
 ghost use Rattle.esm_io.specs.Meanings.{disk as meaning};
 ghost use Rattle.esm_folder.specs.Init.{AreSafe, IsInitEnd};
@@ -15,9 +15,9 @@ use std::alloc::Global;
 pub enum InitEnd {
     /// The four files are made, and on their disks.
     Done,
-    /// The file is the first that is not empty; it has so many bytes, and nothing was written.
+    /// This is the first file that is not empty, and how many bytes it has; nothing was written.
     NotEmpty { file: FileName, size: u64 },
-    /// A disk's count of faults rose.
+    /// A call of a disk failed: its count of faults rose.
     DiskFault,
 }
 
@@ -28,8 +28,8 @@ pub struct Initialized<D> {
     pub disks: Disks<D>,
 }
 
-/// Makes the four files of a folder on empty disks: journal, spare, failures and registry in this order. Where a disk
-/// has bytes nothing is written. After a fault the files before the one that failed are made.
+/// Makes the four files of a folder on empty disks: journal, spare, failures and registry in this order. Reads the lengths
+/// of all four first; if a disk has bytes nothing is written. After a fault in making a file, those before it are made.
 pub fn init<D: Disk>(alloc: Global, disks: Disks<D>) -> Initialized<D>
     ensures end { IfOk result.end (IsInitEnd (meaning D.Disk) disks result.disks) }
     ensures safe { AreSafe (meaning D.Disk) disks result.disks }

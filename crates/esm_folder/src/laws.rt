@@ -1,4 +1,4 @@
-//! What holds of the texts of worked examples, as the contract of a function that does nothing.
+//! The texts of worked examples, as the contract of a function that does nothing.
 ghost use Rattle.std.specs.Prelude.{◌≡◌, [], ◌∷◌, codes};
 ghost use Rattle.esm_folder.specs.declared.ending.JournalFile.TheVariants as file;
 ghost use Rattle.esm_folder.specs.declared.ending.UpkeepEnd.TheVariants as end;

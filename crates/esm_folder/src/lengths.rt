@@ -11,7 +11,7 @@ use crate::disks::Disks;
 use esm_io::{Disk, Failed};
 use esm_model::FileName;
 
-/// The numbers of bytes of the four files.
+/// The lengths of the four files in bytes.
 #[derive(Clone, Copy)]
 pub struct Sizes {
     pub journal: u64,
@@ -43,7 +43,7 @@ impl Sizes {
     }
 }
 
-/// The number of bytes of a disk.
+/// The length of a disk in bytes.
 fn size_of<D: Disk>(disk: &mut D) -> Result<u64, Failed>
     ensures size { D.honest disk.old ≡ true → IfOk result (λ n. n ≡ length (D.content disk.old)) }
     ensures only_read { IsOnlyRead (meaning D.Disk) disk.old disk.new }
@@ -52,7 +52,7 @@ fn size_of<D: Disk>(disk: &mut D) -> Result<u64, Failed>
     disk.len()
 }
 
-/// The numbers of bytes of the four disks.
+/// The lengths of the four disks in bytes.
 pub fn read_sizes<D: Disk>(disks: &mut Disks<D>) -> Result<Sizes, Failed>
     ensures sizes { IfOk result (λ sizes. (f : FileName) → D.honest (disk_of disks.old f) ≡ true
         → size_at sizes f ≡ size_in (meaning D.Disk) disks.old f) }

@@ -1,6 +1,6 @@
-//! The commands that look after a folder's files. `init` makes the four files on empty disks, or writes nothing where one of
-//! them has bytes; `show` tells what a mapping's journal says, `failures` the failure lines, `compact` rewrites the journal as a
-//! list that says the same, `migrate` brings it to version 2.
+//! The commands that look after a folder's files. `init` makes the four files on empty disks, or writes nothing if one of
+//! them has bytes; `show` reports what a mapping's journal says, and `failures` the failure lines; `compact` rewrites the
+//! journal as a list that says the same, and `migrate` brings it to version 2.
 //! Each is a function over disks that hands them back; what it prints is a function of how it ended.
 #![tactic(auto)]
 

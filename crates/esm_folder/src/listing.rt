@@ -1,4 +1,4 @@
-// The failure lines.
+// The command `failures`: the failure lines.
 ghost use Rattle.std.specs.Prelude.{◌≡◌, IfOk};
 ghost use Rattle.esm_io.specs.Meanings.{disk as meaning};
 ghost use Rattle.esm_journal.specs.Reads.{IsOnlyRead};
@@ -36,8 +36,8 @@ fn list_payloads(alloc: Global, payloads: &[Bytes]) -> Result<UpkeepEnd, OutOfMe
     })
 }
 
-/// Opens a failure file and tells its lines, in order. Nothing is written. The file or its damage is named where it has
-/// one; `DiskFault` only where the count of faults rose.
+/// Opens a failure file and lists its lines, in order. Nothing is written. Refuses a file that is no journal (`NotAJournal`)
+/// or is damaged (`Damaged`, with the place); ends with `DiskFault` only if the count of faults rose.
 pub fn failures<D: Disk>(alloc: Global, disk: D) -> FileEnded<D>
     ensures end { IfOk result.end (IsFailuresEnd (meaning D.Disk) disk result.disk) }
     ensures only_read { IsOnlyRead (meaning D.Disk) disk result.disk }

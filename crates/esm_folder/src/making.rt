@@ -1,4 +1,4 @@
-// Making the journal, the spare, the failures and the registry on empty disks, one after the other.
+// Makes the journal, the spare, the failures and the registry on empty disks, one after the other.
 ghost use Rattle.std.specs.Prelude.{◌≡◌, IfErr, IfOk};
 ghost use Rattle.esm_io.specs.Meanings.{disk as meaning};
 ghost use Rattle.esm_folder.specs.Init.{AreSafe, IsSafe, Makes, fresh_bytes};
@@ -15,7 +15,7 @@ use std::alloc::Global;
 /// A disk with a fresh file, or the disk as the refusal left it.
 type Made<D> = Result<D, Refused<InitError, D>>;
 
-/// The answer where the making of this file stopped.
+/// How `init` ends if the making of this file stopped.
 fn end_of(file: FileName, why: InitError) -> Result<InitEnd, OutOfMemory>
     ensures { result ≡ end_of file why }
 {

@@ -1,4 +1,4 @@
-// From version 1 to version 2.
+// The command `migrate`: from version 1 to version 2.
 ghost use Rattle.std.specs.Prelude.{IfOk};
 ghost use Rattle.esm_io.specs.Meanings.{disk as meaning};
 ghost use Rattle.esm_folder.specs.Opened.{IsJudgedMigration};
@@ -29,10 +29,11 @@ fn judge(alloc: Global, payloads: &[Bytes], was: u8) -> Result<UpkeepEnd, OutOfM
     }
 }
 
-/// Brings a mapping's journal and its spare to version 2, and judges the payloads; a pair of version 2 is only read. A
-/// first bad payload is named, and stands in the new list as it stood. The file or its damage is named where it has one,
-/// with nothing written; `DiskFault` only where a count of faults rose. A crash at any moment leaves a pair that opens as
-/// version 1 or as version 2 to the same list.
+/// Brings a mapping's journal and its spare to version 2, and judges the payloads; a pair of version 2 is only read. Ends
+/// with `BadPayload` and the index of the first bad payload, if there is one, which is in the new list as it was. Refuses a
+/// pair that is none (`NotAJournal`) or is damaged (`Damaged`, with the place), and then nothing was written; ends with
+/// `DiskFault` only if a count of faults rose. If each disk of version 1 had one image before, as a synced one has, a crash
+/// at any moment leaves a pair that opens as version 1 or as version 2 to the same list.
 pub fn migrate<D: Disk>(alloc: Global, journal: D, spare: D) -> PairEnded<D>
     ensures end { IfOk result.end (IsMigrateEnd (meaning D.Disk) journal spare result.journal result.spare) }
     ensures images { IsMigrating (meaning D.Disk) journal spare result.journal result.spare }

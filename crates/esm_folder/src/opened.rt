@@ -9,7 +9,7 @@ use esm_journal::{OpenError, Pair};
 use esm_journal_state::SaysError;
 use esm_model::OutOfMemory;
 
-/// The end where the file was not opened.
+/// How a command ends if the file was not opened.
 pub fn end_of_file(file: JournalFile, why: OpenError) -> Result<UpkeepEnd, OutOfMemory>
     ensures { result ≡ end_of_file file why }
 {
@@ -21,7 +21,7 @@ pub fn end_of_file(file: JournalFile, why: OpenError) -> Result<UpkeepEnd, OutOf
     }
 }
 
-/// The end where a payload of a mapping's journal is bad.
+/// How a command ends if a payload of a mapping's journal is bad.
 pub fn end_of_payloads(why: SaysError) -> Result<UpkeepEnd, OutOfMemory>
     ensures { result ≡ end_of_payloads why }
 {

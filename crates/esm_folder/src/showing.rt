@@ -1,4 +1,4 @@
-// What a mapping's journal says.
+// The command `show`: what a mapping's journal says.
 ghost use Rattle.std.specs.Prelude.{IfOk};
 ghost use Rattle.esm_io.specs.Meanings.{disk as meaning};
 ghost use Rattle.esm_folder.specs.Opened.{IsJudged};
@@ -30,9 +30,9 @@ fn show_payloads(alloc: Global, payloads: &[Bytes]) -> Result<UpkeepEnd, OutOfMe
     }
 }
 
-/// Opens a mapping's journal and its spare, and tells what the payloads say of each shard and of a queue. Nothing is
-/// written. The file, its damage or its first bad payload is named where it has one; `DiskFault` only where a count of
-/// faults rose.
+/// Opens a mapping's journal and its spare, and reports what the payloads say of each shard and of a queue. Nothing is
+/// written. Refuses a pair that is none (`NotAJournal`), that is damaged (`Damaged`, with the place) or that has a bad
+/// payload (`BadPayload`, with the index of the first); ends with `DiskFault` only if a count of faults rose.
 pub fn show<D: Disk>(alloc: Global, journal: D, spare: D) -> PairEnded<D>
     ensures end { IfOk result.end (IsShowEnd (meaning D.Disk) journal spare result.journal result.spare) }
     ensures only_read { AreOnlyRead (meaning D.Disk) journal spare result.journal result.spare }

@@ -20,7 +20,7 @@ pub struct ShardSummary {
 /// What a journal says, in numbers.
 #[derive(Drop, Debug)]
 pub struct Summary {
-    /// The shards that the journal speaks of, by rising number.
+    /// The shards that the journal names, by rising number.
     pub shards: Vec<ShardSummary>,
     /// How many messages of a queue were deleted.
     pub deleted: u32,

@@ -11,7 +11,7 @@ use esm_event::record::push_shard_id;
 use esm_model::OutOfMemory;
 use std::alloc::Global;
 
-/// What a command over a folder's journals prints: the lines that it tells, and the last line.
+/// What a command over a folder's journals prints: its lines, and the last line.
 pub fn upkeep_text(alloc: Global, end: &UpkeepEnd) -> Result<Vec<u8>, OutOfMemory>
     ensures { IfOk result (λ text. text.items ≡ upkeep_text end.now) }
 {
@@ -125,7 +125,7 @@ fn push_not_a_journal(out: &mut Vec<u8>, file: JournalFile) -> Result<(), OutOfM
     Ok(())
 }
 
-/// What is wrong with a file, its name, and where.
+/// Appends what is wrong with a file, its name, and the place or the index.
 fn push_at(
     out: &mut Vec<u8>,
     wrong: &[u8],

@@ -1,5 +1,5 @@
--- The generated stream: its records, the lines of JSON that it reads as, and its mapping. This product's own, but for the
--- line's fields, which are those of a record of a stream (the Kinesis API Reference, `Record`).
+-- The generated stream: its records, their lines of JSON, and its mapping. This product's own, except for the fields of a
+-- line, which are those of a record of a stream (the Kinesis API Reference, `Record`).
 use Rattle.std.specs.Prelude.{ℕ, ◌+◌, ◌%◌, true, false, List, [], ◌∷◌, ◌++◌, map, codes, Some, None}
 use Rattle.std.specs.List.{flat_map}
 use Rattle.esm_model.specs.declared.config.Config.{Config}
@@ -14,12 +14,12 @@ use Rattle.esm_model.specs.Numbers.{decimal}
 abbrev pub generated_data : ℕ → List ℕ
 generated_data i = codes "{\"n\":" ++ decimal (i % 10) ++ codes "}"
 
--- the record with this number, counted from 0: two shards take turns, of fifty keys each comes once in fifty records, and one
--- record arrives in each millisecond
+-- the record with this number, counted from 0: the two shards take turns, each of fifty keys comes once in fifty records,
+-- and one record arrives each millisecond
 abbrev pub generated_record : ℕ → Record
 generated_record i = record { shard = i % 2; seq = decimal (i + 1); key = codes "k" ++ decimal (i % 50); payload = generated_data i; arrival = i }
 
--- the records of a generated stream of so many, in order
+-- the first n records of a generated stream, in order
 abbrev pub generated_records : ℕ → List Record
 generated_records n = map generated_record (below n)
 
@@ -34,19 +34,20 @@ content_part r =
     ++ codes "\",\"data\":\"" ++ base64_text r.payload
     ++ codes "\",\"approximateArrivalTimestamp\":" ++ decimal r.arrival ++ codes "}\n"
 
--- the line of an input that is this record, whose texts have no character that needs an escape
+-- the line of this record, none of whose texts needs an escape
 unfoldable pub input_line : Record → List ℕ
 input_line r = place_part r ++ content_part r
 
--- the input that is a generated stream of so many records
+-- the input that has the first n records
 abbrev pub generated_lines : ℕ → List ℕ
 generated_lines n = flat_map input_line (generated_records n)
 
--- the filters of its mapping: records whose data has an `n` below 8 pass, and so do those of one key
+-- the filters of its mapping: they pass records whose data has an `n` below 8, and those of one key
 abbrev pub generated_filters : List (List ℕ)
 generated_filters = codes "{\"data\":{\"n\":[{\"numeric\":[\"<\",8]}]}}" ∷ codes "{\"partitionKey\":[\"k49\"]}" ∷ []
 
--- its mapping: ten lanes for a shard, batches of a hundred, a failed batch is halved, three retries, and an hour's greatest age
+-- its mapping: ten lanes for each shard, batches of a hundred, halving of failed batches, three retries, and a greatest age
+-- of an hour
 abbrev pub generated_mapping : Config
 generated_mapping = record {
   source_arn = codes "arn:aws:kinesis:us-east-1:123456789012:stream/s";
@@ -70,6 +71,6 @@ generated_mapping = record {
   enabled = true;
 }
 
--- its function fails where the event holds a record of this key
+-- its function fails if the event holds a record of this key
 abbrev pub poisoned_key : List ℕ
 poisoned_key = codes "\"partitionKey\":\"k49\""

@@ -2,7 +2,7 @@
 use Rattle.std.specs.Prelude.{◌≡◌, []}
 use Rattle.esm_journal_state.specs.SaidLists.{SaidLists}
 
--- of fates, tries and windows
+-- neither of fates nor of tries nor of windows
 pub record SaysNothing (said : SaidLists) : Type 0 where
   pub fates : said.fates ≡ []
   pub tries : said.tries ≡ []

@@ -1,4 +1,4 @@
--- What an input of a stream is read as.
+-- What an input of a stream reads as.
 use Rattle.std.specs.Prelude.{◌≡◌, ℕ, List, map, None}
 use Rattle.esm_model.specs.Records.{Record}
 use Rattle.esm_record.specs.Input.{input_of}

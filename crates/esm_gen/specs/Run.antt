@@ -19,11 +19,11 @@ use Rattle.esm_gen.specs.declared.run.TheConstants.{CALLS}
 use Rattle.esm_gen.specs.Function.{AreAnswered}
 use Rattle.esm_gen.specs.Report.{generated_report}
 
--- the stream's own mapping, and nothing found in a journal
+-- the generated mapping, and a journal that says nothing
 abbrev pub generated_setting : List Stream → Setting
 generated_setting streams = record { config = generated_mapping; calls = CALLS; streams = streams; fates = []; tries = []; states = []; window_tries = [] }
 
--- of each shard the records that came are the first of those that the front of the input reads as
+-- of each shard, the records that arrived are a prefix of those in a prefix of the input
 pub record HaveCome (records : ℕ) (s : Setting) : Type 0 where
   pub bytes : List ℕ
   pub rest : List ℕ
@@ -35,18 +35,18 @@ pub record HaveCome (records : ℕ) (s : Setting) : Type 0 where
 abbrev pub AreReplies : Setting → List Entry → Type 0
 AreReplies s h = (k : ℕ) → k < MAX_LANES → AreAnswered (calls s (λ event. event) h k)
 
--- the history (newest entry first) of a run of a generated stream of so many records, over this setting
+-- the history (newest entry first) of a run over the first `records` records of a generated stream, over this setting
 pub record IsRunOver (records : ℕ) (s : Setting) (h : List Entry) : Type 0 where
   pub setting : s ≡ generated_setting s.streams
   pub have_come : HaveCome records s
-  -- each entry may follow those before it, over every list of records that goes on from those that came
+  -- each entry may follow those before it, over every list of records that extends those that arrived
   pub legal_trace : LegalOver s h
   pub order_per_key : OrderPerKey s h
   pub no_repeat : NoRepeat s h
   pub every_record_counted : EveryRecordCounted s h
   pub replies : AreReplies s h
 
--- all generated records came, the end of the input was noted, no call is without its end, and each record has its fate
+-- all generated records arrived, the end of the input was noted, every call has ended, and each record has its fate
 pub record IsWhole (records : ℕ) (s : Setting) (h : List Entry) : Type 0 where
   pub lists : (n : ℕ) → records_of s n ≡ of_shard n (generated_records records)
   pub came : (n : ℕ) → came_count h n ≡ length (records_of s n)
@@ -63,7 +63,7 @@ pub record HasFinished (records : ℕ) (h : List Entry) : Type 0 where
   pub run : IsRunOver records setting h
   pub is_whole : IsWhole records setting h
 
--- and this report of it is told
+-- and this is its report
 pub record HasTold (records : ℕ) (h : List Entry) (text : List ℕ) : Type 0 where
   pub finished : HasFinished records h
   pub text_is : text ≡ generated_report finished.setting h

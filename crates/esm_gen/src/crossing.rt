@@ -1,4 +1,4 @@
-// That a caller of a generated stream's function moves between threads.
+// Shows that a caller of a generated stream's function can move to another thread.
 
 use crate::function::FunctionCaller;
 

@@ -8,12 +8,13 @@ use esm_io::MemDisk;
 use esm_model::OutOfMemory;
 use std::alloc::Global;
 
-/// A disk without bytes, of which no call is to fail.
+/// Makes a disk without bytes, none of whose calls is to fail.
 fn empty(alloc: Global) -> MemDisk {
     MemDisk::new(alloc, Vec::new(alloc), Vec::new(alloc))
 }
 
-/// Disks in memory as an `init` leaves them. It is refused for want of memory alone, since no call of them is to fail.
+/// Makes disks in memory as an `init` leaves them. Since none of their calls is to fail, the `init` can fail only if memory
+/// runs out.
 pub fn fresh_disks(alloc: Global) -> Result<Disks<MemDisk>, OutOfMemory>
     ensures journal { IfOk result (λ disks. disks.journal.content ≡ fresh_bytes Journal) }
     ensures spare { IfOk result (λ disks. disks.spare.content ≡ fresh_bytes Spare) }

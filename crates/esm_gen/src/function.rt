@@ -1,4 +1,4 @@
-// The function of a generated stream, as a caller of it.
+// The function of a generated stream, and its callers.
 ghost use Rattle.std.specs.Prelude.{◌≡◌, Some, [], ◌∷◌, length, IfOk, OnErr};
 ghost use Rattle.std.specs.List.{All};
 ghost use Rattle.esm_model.specs.declared.limits.TheConstants.{MAX_LANES};
@@ -13,8 +13,8 @@ use esm_model::{MAX_LANES, OutOfMemory, Reply};
 use std::alloc::Global;
 use std::marker::Model;
 
-/// A caller of the function of a generated stream, in memory. It fails the events that hold a record of one key, none of its
-/// calls is lost, and contracts see them all.
+/// A caller, in memory, of the function of a generated stream. It fails each event that holds a record of one key and loses
+/// no call. Contracts see all calls.
 #[derive(Drop)]
 pub struct FunctionCaller {
     caller: ScriptCaller,
@@ -32,7 +32,7 @@ impl Model for FunctionCaller {
 }
 
 impl FunctionCaller {
-    /// A caller of which no call was made.
+    /// Makes a caller that has made no call.
     fn new(alloc: Global) -> Result<Self, OutOfMemory>
         ensures { IfOk result (λ f. f.log ≡ []) }
     {
@@ -42,7 +42,7 @@ impl FunctionCaller {
         })
     }
 
-    /// What is true of every caller of the function. Does nothing.
+    /// States what is true of every caller of the function. Does nothing.
     fn keeps(&self)
         ensures { IsFunction self.now }
     {
@@ -68,7 +68,7 @@ impl Caller for FunctionCaller {
     }
 }
 
-/// The callers of the function, one for each batcher. No call was made.
+/// Makes the callers of the function, one for each batcher, which have made no call. `OutOfMemory` if an allocation failed.
 pub fn function_callers(alloc: Global) -> Result<Vec<FunctionCaller>, OutOfMemory>
     ensures count { IfOk result (λ callers. length callers.items ≡ MAX_LANES) }
     ensures unused { IfOk result (λ callers. All (λ f. f.log ≡ []) callers.items) }
@@ -81,7 +81,7 @@ pub fn function_callers(alloc: Global) -> Result<Vec<FunctionCaller>, OutOfMemor
     Ok(callers)
 }
 
-/// What is true of callers of the function, whatever was called. Does nothing.
+/// States what is true of callers of the function, whatever they called. Does nothing.
 pub fn all_keep(callers: &[FunctionCaller])
     ensures { All IsFunction callers.now }
 {

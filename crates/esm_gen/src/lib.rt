@@ -1,6 +1,6 @@
-//! A generated stream: the lines of its input, the mapping that reads them, and the key whose records its function fails; and
-//! the run of it, whose input, disks, clock and callers are in memory and of its own, and none of them fails.
-//! A trial of the whole engine runs on it; it is the same each time.
+//! A generated stream: the lines of its input, the mapping that reads them, and the key whose records its function fails;
+//! and its run, over an input, disks, a clock and callers in memory, none of which fails.
+//! It is a trial of the whole engine, and is the same each time.
 #![tactic(auto)]
 
 mod crossing;

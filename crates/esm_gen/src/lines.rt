@@ -9,8 +9,8 @@ use esm_event::record::{push_base64, push_shard_id};
 use esm_model::OutOfMemory;
 use std::alloc::Global;
 
-/// The input of a generated stream of so many records: a line of JSON for each, with its line feed. It reads as these records,
-/// and no line of it is refused.
+/// Writes the input of a generated stream of `records` records: a line of JSON for each, with its line feed. It reads as
+/// these records, and no line of it is refused. `OutOfMemory` if an allocation failed.
 #[tactic(auto, using(crate::proofs::Generating::one_more, crate::proofs::WholeInput::reads_back))]
 pub fn generated_lines(alloc: Global, records: u32) -> Result<Vec<u8>, OutOfMemory>
     ensures lines { IfOk result (λ text. text.items ≡ spec.generated_lines records) }
@@ -23,7 +23,7 @@ pub fn generated_lines(alloc: Global, records: u32) -> Result<Vec<u8>, OutOfMemo
     Ok(out)
 }
 
-/// Appends the line of the record with this number. After an `Err` a part of it may stand there.
+/// Appends the line of the record with this number. After an `Err`, a part of it may be there.
 #[tactic(auto, unfolding(crate::specs::Generated::input_line))]
 fn push_line(alloc: Global, out: &mut Vec<u8>, number: u64) -> Result<(), OutOfMemory>
     requires { number < 4294967296 }
@@ -60,7 +60,7 @@ fn push_content(alloc: Global, out: &mut Vec<u8>, number: u64) -> Result<(), Out
     Ok(())
 }
 
-/// The partition key of the record with this number.
+/// Writes the partition key of the record with this number.
 fn partition_key(alloc: Global, number: u64) -> Result<Vec<u8>, OutOfMemory>
     ensures { IfOk result (λ key. key.items ≡ (spec.generated_record number).key) }
 {
@@ -70,7 +70,7 @@ fn partition_key(alloc: Global, number: u64) -> Result<Vec<u8>, OutOfMemory>
     Ok(key)
 }
 
-/// The data of the record with this number.
+/// Writes the data of the record with this number.
 fn generated_data(alloc: Global, number: u64) -> Result<Vec<u8>, OutOfMemory>
     ensures { IfOk result (λ payload. payload.items ≡ spec.generated_data number) }
 {

@@ -14,7 +14,8 @@ fn text(alloc: Global, source: &str) -> Result<Text, OutOfMemory>
     Ok(Text::from_vec(String::from_str(alloc, source)?))
 }
 
-/// The filters of a generated stream's mapping: records whose data has an `n` below 8 pass, and so do those of the key `k49`.
+/// Makes the filters of a generated stream's mapping: they pass records whose data has an `n` below 8, and those of the key
+/// `k49`.
 fn generated_filters(alloc: Global) -> Result<Texts, OutOfMemory>
     ensures { IfOk result (λ filters. filters ≡ spec.generated_filters) }
 {
@@ -26,8 +27,8 @@ fn generated_filters(alloc: Global) -> Result<Texts, OutOfMemory>
     Ok(Texts::from_vec(filters))
 }
 
-/// The mapping of a generated stream: ten lanes for a shard, batches of a hundred, a failed batch is halved, three retries,
-/// and an hour's greatest age.
+/// Makes the mapping of a generated stream: ten lanes for each shard, batches of a hundred, halving of failed batches, three
+/// retries, and a greatest age of an hour. `OutOfMemory` if an allocation failed.
 #[tactic(auto, using(crate::proofs::MappingIsGood::is_valid, crate::proofs::MappingIsGood::are_patterns))]
 pub fn generated_mapping(alloc: Global) -> Result<Config, OutOfMemory>
     ensures mapping { IfOk result (λ config. config ≡ spec.generated_mapping) }
@@ -57,7 +58,8 @@ pub fn generated_mapping(alloc: Global) -> Result<Config, OutOfMemory>
     })
 }
 
-/// The part of an event that holds a record of the key `k49`. The function of a generated stream fails where it is there.
+/// Returns the part of an event that holds a record of the key `k49`. The function of a generated stream fails the events
+/// that have it.
 pub fn poisoned_key(alloc: Global) -> Result<Bytes, OutOfMemory>
     ensures { IfOk result (λ part. part ≡ spec.poisoned_key) }
 {

@@ -10,7 +10,7 @@ use esm_model::{Entry, OutOfMemory};
 use esm_report::{Ending, push_calls_line, push_last_line, report};
 use std::alloc::Global;
 
-/// The line of the calls and the last line, of a run that is done.
+/// Writes the line of the calls and the last line of a run that ended with `Done`.
 fn calls_and_end(alloc: Global, trace: &[Entry]) -> Result<Vec<u8>, OutOfMemory>
     ensures { IfOk result (λ text. text.items ≡ line (calls_text (reverse trace.now)) ++ last_line Done) }
 {
@@ -20,8 +20,9 @@ fn calls_and_end(alloc: Global, trace: &[Entry]) -> Result<Vec<u8>, OutOfMemory>
     Ok(text)
 }
 
-/// The report of a run that is done and whose history is `trace`, the oldest entry first, where the journal said `said` at
-/// its opening: a line for each shard that came, and the last line. How often the function was called is not told.
+/// Writes the report of a run that ended with `Done` and whose history is `trace` (oldest entry first); `said` is what the
+/// journal said when the run opened it. It has a line for each shard of which records arrived, and the last line, but not
+/// the number of calls.
 pub fn generated_report(alloc: Global, said: &Says, trace: &[Entry]) -> Result<Vec<u8>, OutOfMemory>
     ensures { IfOk result (λ text. (s : Setting) → s.fates ≡ said.now.fates
         → text.items ≡ spec.generated_report s (reverse trace.now)) }

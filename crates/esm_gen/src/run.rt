@@ -24,14 +24,14 @@ use std::alloc::Global;
 use std::sync::Wait;
 use std::thread::Threads;
 
-/// The calls allowed. The run of the greatest generated stream makes fewer.
+/// The calls allowed. The run of the longest generated stream makes fewer.
 pub const CALLS: u32 = 1_000_000;
 
-/// The bytes of the input that are given at once.
+/// How many bytes of the input are given at once, at most.
 const PIECE: usize = 65_536;
 
-/// What became of the run of a generated stream: its report, where every record has its fate, and its history with the oldest
-/// entry first.
+/// What became of the run of a generated stream: its report, if every record has its fate, and its history (oldest entry
+/// first).
 #[derive(Drop)]
 pub struct GeneratedRun {
     pub report: Result<Vec<u8>, OutOfMemory>,
@@ -62,7 +62,7 @@ fn open_fresh(alloc: Global, disks: Disks<MemDisk>) -> Result<Files<MemDisk>, Ou
     }
 }
 
-/// What the run of so many records begins with.
+/// Makes what a run of `records` records begins with.
 fn prepare(alloc: Global, records: u32) -> Result<Prepared, OutOfMemory>
     ensures prepared { IfOk result (IsPrepared records) }
     ensures may_run { IfOk result MayRun }
@@ -80,7 +80,7 @@ fn prepare(alloc: Global, records: u32) -> Result<Prepared, OutOfMemory>
     })
 }
 
-/// Runs the mapping: the inner run is the one of every stream.
+/// Runs the mapping by `run_stream`, which runs every stream's.
 fn run_prepared<R: Threads + Wait + Sync>(
     rt: &R,
     alloc: Global,
@@ -107,7 +107,7 @@ fn run_prepared<R: Threads + Wait + Sync>(
     run
 }
 
-/// The run with its report, where every record has its fate.
+/// Adds its report to the run if every record has its fate. Any other end is reported as `OutOfMemory`.
 fn told(alloc: Global, run: MappingRun<MemSource, MemDisk, FunctionCaller>) -> GeneratedRun
     ensures trace { result.trace ≡ run.trace }
     ensures finished { IfOk result.report (λ text. run.end ≡ Ok (Finished End)) }
@@ -124,8 +124,9 @@ fn told(alloc: Global, run: MappingRun<MemSource, MemDisk, FunctionCaller>) -> G
     }
 }
 
-/// Runs a generated stream of so many records over disks, a clock and callers of its own, all in memory and without a failing
-/// call: the input is read to its end before the first call. Its report is refused for want of memory alone.
+/// Runs a generated stream of `records` records over disks, a clock and callers of its own, which are in memory and none of
+/// whose calls fails. It reads the input to its end before the first call. The report is `OutOfMemory` if an allocation
+/// failed, and also if the run had ended without a fate for every record.
 pub fn run_generated<R: Threads + Wait + Sync>(rt: &R, alloc: Global, records: u32) -> GeneratedRun
     ensures run { HasRun records (reverse result.trace.items) }
     ensures told { IfOk result.report (λ text. HasTold records (reverse result.trace.items) text.items) }

@@ -1,4 +1,4 @@
--- The calls of a history, of batches and final ones apart, and what bounds them. This product's own.
+-- The calls of a history, those of batches and final ones separately, and their bounds. This product's own.
 use Rattle.std.specs.Prelude.{◌≡◌, ◌≤◌, ◌+◌, ℕ, suc, Bool, true, false, List, [], ◌∷◌, Option, Some, None, if◌then◌else◌}
 use Rattle.esm_model.specs.declared.config.Config.{Config}
 use Rattle.esm_model.specs.declared.entry.Reply.{Reply}
@@ -10,7 +10,7 @@ use Rattle.esm_model.specs.Reading.{reading}
 use Rattle.esm_model.specs.Valid.{HasStreamFields}
 use Rattle.esm_model.specs.CallBound.{call_bound, is_not_run, record_count}
 
--- a stream's configuration with so many retry attempts
+-- a stream's configuration with this finite number of retry attempts
 pub record IsFinite (c : Config) (retries : ℕ) : Type 0 where
   pub fields : HasStreamFields c
   pub finite : c.retries ≡ Some retries
@@ -31,7 +31,7 @@ abbrev pub is_of_batch : Option ℕ → Bool
 is_of_batch None = true
 is_of_batch (Some window) = false
 
--- the reply to a batch of the shard says that the call was not run
+-- the reply to a call of a batch of the shard says that the call was not run
 abbrev pub batch_was_not_run : Setting → ℕ → Option Call → Reply → Bool
 batch_was_not_run s n None reply = false
 batch_was_not_run s n (Some call) reply = if is_of_batch call.closing then is_not_run (reading s.config (sequences_at s n call.places) false reply) else false
@@ -40,12 +40,12 @@ abbrev pub batch_not_run_after : Setting → List Entry → ℕ → Entry → �
 batch_not_run_after s h before (Ended lane reply moment) = if batch_was_not_run s lane.shard (last_call h lane) reply then suc before else before
 batch_not_run_after s h before _ = before
 
--- the number of replies that say so
+-- the number of replies that say that a call of a batch was not run
 abbrev pub batch_calls_not_run : Setting → List Entry → ℕ
 batch_calls_not_run s [] = 0
 batch_calls_not_run s (e ∷ h) = batch_not_run_after s h (batch_calls_not_run s h) e
 
--- The bound is not reached while a record came: it has one call more for each record than a history can have. So a run that
--- may make so many calls never comes to a stop because they are spent.
+-- The bound exceeds the calls of a history by at least one for each record that arrived. So once a record arrived, a run
+-- that may make as many calls as its bound never stops because its calls are spent.
 abbrev pub IsWithinBound : Setting → List Entry → Type 0
 IsWithinBound s h = calls_begun h + record_count h ≤ call_bound s h

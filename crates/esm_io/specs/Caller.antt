@@ -1,4 +1,4 @@
--- What a scripted caller holds. This product's own.
+-- The state of a scripted caller. This product's own.
 use Rattle.std.specs.Prelude.{ℕ, List, [], Bool}
 use Rattle.esm_io.specs.Schedule.{ScheduleState}
 use Rattle.esm_io.specs.declared.script.Script.{Script}
@@ -12,6 +12,6 @@ pub record CallerState : Type 0 where
   pub keeps_copies : Bool
   pub schedule : ScheduleState
 
--- no call was made
+-- a caller that has made no call
 abbrev pub new_caller : Script → List ℕ → Bool → CallerState
 new_caller script fails keeps_copies = record { script = script; given = 0; log = []; keeps_copies = keeps_copies; schedule = record { fails = fails; calls = 0; faults = 0 } }

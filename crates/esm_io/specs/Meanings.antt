@@ -1,5 +1,5 @@
--- What a disk means, and what a destination means, each as one value, so that a contract is handed one argument for
--- it. This product's own.
+-- The meaning of a disk and of a destination, each as one value, so that a contract takes one argument for it. This
+-- product's own.
 use Rattle.std.specs.Prelude.{ℕ, Bool, List, Option}
 use Rattle.esm_io.specs.declared.disk.Disk.{Ghosts as Disk}
 use Rattle.esm_io.specs.declared.dest.Dest.{Ghosts as Dest}
@@ -12,7 +12,7 @@ pub record DiskMeaning (D : Type 0) : Type 1 where
   pub since : D → ℕ → List ℕ → Type 0
   pub faults : D → ℕ
 
--- by the members of its trait
+-- the meaning, from the ghost members of the trait
 abbrev pub disk : {D : Type 0} → Disk D → DiskMeaning D
 disk members = record { honest = members.honest; content = members.content; image = members.image; moment = members.moment; since = members.image_since; faults = members.faults }
 
@@ -26,6 +26,6 @@ pub record DestMeaning (T : Type 0) : Type 1 where
   pub since : T → ℕ → List ℕ → Type 0
   pub reads_as : List ℕ → List (List ℕ) → Type 0
 
--- by the members of its trait
+-- the meaning, from the ghost members of the trait
 abbrev pub destination : {T : Type 0} → Dest T → DestMeaning T
 destination members = record { honest = members.honest; faults = members.faults; lines = members.lines; sends = members.sends; failed = members.failed; moment = members.moment; since = members.image_since; reads_as = members.reads_as }

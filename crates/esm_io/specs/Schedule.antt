@@ -9,7 +9,7 @@ pub record ScheduleState : Type 0 where
   pub calls : ℕ
   pub faults : ℕ
 
--- one more, up to the last value
+-- one more, capped at the greatest count
 abbrev pub one_more : ℕ → ℕ
 one_more n = min (n + 1) MAX_FAULTS
 
@@ -20,10 +20,10 @@ is_due s = list_any (λ n. n == s.calls) s.fails
 abbrev pub after_fault : ScheduleState → ScheduleState
 after_fault s = record { fails = s.fails; calls = s.calls; faults = one_more s.faults }
 
--- a call that failed was made
+-- a call was made and failed
 abbrev pub after_failure : ScheduleState → ScheduleState
 after_failure s = record { fails = s.fails; calls = one_more s.calls; faults = one_more s.faults }
 
--- a call was made; one that is to fail is a fault
+-- a call was made; it is a fault if it is to fail
 abbrev pub after_call : ScheduleState → ScheduleState
 after_call s = record { fails = s.fails; calls = one_more s.calls; faults = if is_due s then one_more s.faults else s.faults }

@@ -6,7 +6,7 @@ use Rattle.esm_model.specs.declared.entry.Reply.TheVariants.{Answered, Lost}
 use Rattle.esm_io.specs.declared.script.Script.{Script}
 use Rattle.esm_io.specs.declared.script.Script.TheVariants.{Always, Each, Poison}
 
--- the text stands somewhere in the event
+-- the text occurs somewhere in the event
 abbrev pub is_within : List ℕ → List ℕ → Bool
 is_within text [] = starts_with nat_eq [] text
 is_within text (byte ∷ event) = starts_with nat_eq (byte ∷ event) text || is_within text event
@@ -19,13 +19,13 @@ error_reply error = Answered 200 error []
 abbrev pub plain_reply : Reply
 plain_reply = error_reply false
 
--- the reply to an event, after so many that were given before
+-- the reply to an event, after `given` replies
 abbrev pub answer_of : Script → ℕ → List ℕ → Reply
 answer_of (Always reply) given event = reply
 answer_of (Each replies) given event = slice_index_or replies.items given plain_reply
 answer_of (Poison text) given event = error_reply (is_within text event)
 
--- it holds no `Lost`
+-- no reply of the script is `Lost`
 abbrev pub HasNoLost : Script → Type 0
 HasNoLost (Always reply) = reply ≡ Lost → ⊥
 HasNoLost (Each replies) = (n : ℕ) → slice_index_or replies.items n plain_reply ≡ Lost → ⊥

@@ -1,4 +1,4 @@
--- The images of a disk in memory: its steps, the newest first, each undone to find what was there before it. This
+-- The images of a disk in memory, from its steps, newest first: each step is undone to find what was there before it. This
 -- product's own.
 use Rattle.std.specs.Prelude.{◌≡◌, ◌⊎◌, ℕ, ◌+◌, ◌≤◌, ◌<◌, List, [], ◌∷◌, ◌++◌, length, take, drop, refl}
 use Rattle.std.proofs.Common.{inl, inr, arith}
@@ -13,26 +13,26 @@ pub record DiskState : Type 0 where
   pub steps : List DiskStep
   pub schedule : ScheduleState
 
--- what stood there before a write
+-- what was there before a write
 abbrev pub undone : ℕ → ℕ → List ℕ → List ℕ → List ℕ
 undone at count before content = take at content ++ before ++ drop (at + count) content
 
--- a crash now may leave this: the disk as it reads, or since the last sync an earlier image with any bytes in the
--- range of each write
+-- a crash now may leave this image: the disk as it reads, or an earlier state since the last sync, with any bytes in the
+-- range of each later write
 abbrev pub IsImage : List ℕ → List DiskStep → List ℕ → Type 0
 IsImage content [] image = image ≡ content
 IsImage content (Synced ∷ steps) image = image ≡ content
 IsImage content (Wrote at count before ∷ steps) image =
     (image ≡ content) ⊎ ((was : List ℕ) × IsImage (undone at count before content) steps was × Torn at count was image)
 
--- a crash since a number of steps may have left this
+-- a crash may have left this image since the disk had t steps
 abbrev pub IsImageSince : List ℕ → List DiskStep → ℕ → List ℕ → Type 0
 IsImageSince content [] t image = image ≡ content
 IsImageSince content (Synced ∷ steps) t image = (image ≡ content) ⊎ ((t ≤ length steps) × IsImageSince content steps t image)
 IsImageSince content (Wrote at count before ∷ steps) t image =
     IsImage content (Wrote at count before ∷ steps) image ⊎ ((t ≤ length steps) × IsImageSince (undone at count before content) steps t image)
 
--- each write stood within the bytes after it, and past the old end it was over nothing
+-- each write is within the content that it left; where it replaced fewer bytes than it wrote, it extended the end
 abbrev pub AreSteps : List ℕ → List DiskStep → Type 0
 AreSteps content [] = Unit {0}
 AreSteps content (Synced ∷ steps) = AreSteps content steps

@@ -1,7 +1,7 @@
--- What an object from outside holds or has left, where it tells it: `None` tells nothing. This product's own.
+-- What an outside object holds or has left, if it shows that to contracts: `None` shows nothing. This product's own.
 use Rattle.std.specs.Prelude.{◌≡◌, ◌⊎◌, ℕ, List, ◌++◌, ◌∷◌, [], Option, Some, None}
 
--- these came from the front of what was left
+-- these were taken from the front of what was left
 abbrev pub TakesFront : {A : Type 0} → Option (List A) → Option (List A) → List A → Type 0
 TakesFront None new front = new ≡ None
 TakesFront {A} (Some old) new front = (rest : List A) × (old ≡ front ++ rest) × (new ≡ Some rest)
@@ -16,6 +16,6 @@ abbrev pub IsAtEnd : {A : Type 0} → Option (List A) → Type 0
 IsAtEnd None = Unit {0}
 IsAtEnd (Some left) = left ≡ []
 
--- what is left is read as these, or as these and one more
+-- what is left reads as these lines, or as these and one more
 abbrev pub IsEither : (List ℕ → List (List ℕ) → Type 0) → List (List ℕ) → List ℕ → List ℕ → Type 0
 IsEither reads_as held more left = reads_as left held ⊎ reads_as left (held ++ more ∷ [])

@@ -1,4 +1,4 @@
-// What a crash leaves of the bytes of a disk, by its steps and the choice of what has arrived.
+// What a crash leaves of the bytes of a disk in memory, from its steps and the choice of which bytes have arrived.
 ghost use Rattle.std.specs.Prelude.{◌≡◌, ◌+◌, ◌<◌, ◌≤◌, drop, reverse, length, slice_index, if◌then◌else◌, IfOk};
 ghost use Rattle.esm_io.specs.Steps.{AreSteps, undone};
 ghost use Rattle.esm_io.specs.Crashes.{kept_of, has_arrived, arrived, crashed};
@@ -6,7 +6,7 @@ ghost use Rattle.esm_io.specs.Crashes.{kept_of, has_arrived, arrived, crashed};
 use crate::disk_step::DiskStep;
 use std::alloc::{AllocError, Global};
 
-/// The bytes that a crash of this choice leaves of a disk with these bytes after these steps.
+/// The bytes that a crash leaves of a disk with these bytes after these steps, by the choice of `MemDisk::crash`.
 pub fn crashed(
     alloc: Global,
     choice: u64,
@@ -26,7 +26,7 @@ pub fn crashed(
     arrived(alloc, choice, &kept, bytes)
 }
 
-/// What the last sync kept.
+/// The bytes that the last sync kept.
 fn kept(alloc: Global, bytes: &[u8], steps: &[DiskStep]) -> Result<Vec<u8>, AllocError>
     requires { AreSteps bytes.now (reverse steps.now) }
     ensures { IfOk result (λ kept. kept.items ≡ kept_of bytes.now (reverse steps.now)) }
@@ -45,7 +45,7 @@ fn kept(alloc: Global, bytes: &[u8], steps: &[DiskStep]) -> Result<Vec<u8>, Allo
     Ok(kept)
 }
 
-/// Puts back what stood there before a write.
+/// Undoes a write: puts back what was there before it.
 fn undo(bytes: &mut Vec<u8>, at: usize, count: usize, before: &[u8])
     requires within { at + count ≤ length bytes.old.items }
     requires short { length before.now ≤ count }
@@ -59,7 +59,7 @@ fn undo(bytes: &mut Vec<u8>, at: usize, count: usize, before: &[u8])
     }
 }
 
-/// The bytes that have arrived, by the bits of the choice; elsewhere what was kept, or 0.
+/// The bytes that have arrived, by the bits of the choice; for the others the byte that was kept, or 0.
 fn arrived(alloc: Global, choice: u64, kept: &[u8], bytes: &[u8]) -> Result<Vec<u8>, AllocError>
     ensures { IfOk result (λ left. left.items ≡ arrived choice 0 kept.now bytes.now) }
 {
@@ -80,7 +80,7 @@ fn chosen(has: bool, new: u8, was: u8) -> u8
     if has { new } else { was }
 }
 
-/// The first byte, or 0, and the others.
+/// The first byte, or 0 if there is none, and the others.
 fn first_or_zero(bytes: &[u8]) -> (u8, &[u8])
     ensures first { result.0 ≡ slice_index bytes.now 0 }
     ensures others { result.1.now ≡ drop 1 bytes.now }
@@ -91,7 +91,7 @@ fn first_or_zero(bytes: &[u8]) -> (u8, &[u8])
     }
 }
 
-/// The byte at this place has arrived.
+/// Whether the byte at this place has arrived.
 fn has_arrived(choice: u64, place: usize) -> bool
     ensures { result ≡ has_arrived choice place }
 {

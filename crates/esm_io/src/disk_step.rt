@@ -1,10 +1,11 @@
-// The steps that a disk in memory records: what each write put over which bytes, and each sync.
+// The steps that a disk in memory records: each write, with the bytes that it replaced, and each sync.
 use esm_model::Bytes;
 
-/// What a call did to a disk in memory.
+/// A step of a disk in memory: what one call did to it.
 #[derive(Drop, Debug)]
 pub enum DiskStep {
-    /// So many bytes were written from this place on, over the bytes that stood there before.
+    /// `count` bytes were written from the offset `at` on, over the bytes `before`, which are fewer where the write extended
+    /// the end.
     Wrote {
         at: usize,
         count: usize,

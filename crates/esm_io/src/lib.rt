@@ -1,5 +1,5 @@
-//! The outside as traits: sources, sinks, disks, clocks, callers, connections and destinations, each with a written
-//! meaning and a count of faults; and forms in memory that tell what they hold and fail where they are told to.
+//! The outside as traits: sources, sinks, disks, clocks, callers, connections and destinations, each with a written meaning
+//! and a count of faults. With them come forms in memory, which show what they hold and fail at chosen calls.
 #![tactic(auto)]
 
 mod caller;

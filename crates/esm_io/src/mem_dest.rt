@@ -10,11 +10,11 @@ use esm_model::{Bytes, MAX_PAYLOAD, OutOfMemory};
 use std::alloc::{AllocError, Global};
 use std::marker::Model;
 
-/// A destination in memory. It keeps the lines, and tells them. A crash leaves nothing of it.
+/// A destination in memory. It keeps the lines, and shows them to contracts. A crash leaves nothing of it.
 #[derive(Drop, Debug)]
 pub struct MemDest {
     lines: Vec<Bytes>,
-    /// Room for the next line.
+    /// Memory for the next line.
     room: Vec<u8>,
     failed: bool,
     schedule: Schedule,
@@ -37,7 +37,7 @@ impl Model for MemDest {
 }
 
 impl MemDest {
-    /// `fails` are the numbers, from 0, of the deliveries that are to fail.
+    /// Makes a destination without lines. `fails` are the numbers of the deliveries that are to fail, counted from 0.
     pub fn new(alloc: Global, fails: Vec<u64>) -> Self
         ensures lines { result.lines ≡ [] }
         ensures usable { result.failed ≡ false }
@@ -59,7 +59,7 @@ impl MemDest {
     }
 }
 
-/// Adds a line, in the room that was made for it where there is enough; or leaves the lines and at least that room.
+/// Adds a line, in the reserved memory where that is enough. On an error the lines and at least that memory stay.
 fn add_line(
     alloc: Global,
     lines: &mut Vec<Bytes>,
@@ -102,7 +102,7 @@ impl Dest for MemDest {
 
     ghost has_room = { λ s n. n < s.room };
 
-    /// It is not counted among the calls that are to fail. After an `Err` nothing has changed.
+    /// Is not among the calls that may be chosen to fail. After an error nothing has changed.
     fn reserve(&mut self, alloc: Global, bytes: u64) -> Result<(), OutOfMemory>
         ensures room { OnOk result ((n : ℕ) → n ≤ bytes → n < self.new.room) }
         ensures lines_kept { self.new.lines ≡ self.old.lines }
@@ -126,7 +126,7 @@ impl Dest for MemDest {
         ensures usable_still { OnOk result (self.new.failed ≡ false) }
         ensures usable_again { IsErrOf result DestError.OutOfMemory → self.new.failed ≡ false }
         ensures down { IsErrOf result DestError.Failed → self.new.failed ≡ true }
-        // Want of memory.
+        // When memory runs out.
         ensures room { IsErrOf result DestError.OutOfMemory → length line.now < self.old.room → ⊥ }
         ensures room_kept { IsErrOf result DestError.OutOfMemory → (n : ℕ) → n < self.old.room → n < self.new.room }
         ensures uncounted { IsErrOf result DestError.OutOfMemory → self.new.schedule.faults ≡ self.old.schedule.faults }

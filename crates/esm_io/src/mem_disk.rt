@@ -1,4 +1,4 @@
-// A disk in memory, which fails at chosen calls and tells what a crash may leave of its bytes.
+// A disk in memory, which fails at chosen calls and shows what a crash may leave of its bytes.
 ghost use Rattle.std.specs.Prelude.{◌≡◌, ◌+◌, ◌≤◌, true, false, [], ◌∷◌, ◌++◌, length, take, drop, OnOk, OnErr, IfOk, IfErr, IsOk, IsErr};
 ghost use Rattle.esm_io.specs.Faults.{IsCount, Rose};
 ghost use Rattle.esm_io.specs.Images.{overwritten, Torn, Follows, Within, Only, Elapses};
@@ -15,7 +15,7 @@ use esm_model::{Bytes, OutOfMemory, Refused};
 use std::alloc::{AllocError, Global};
 use std::marker::Model;
 
-/// A disk in memory. It tells what a read gives and what a crash may leave, and counts its calls.
+/// A disk in memory. It shows to contracts what reads return and what a crash may leave, and counts its calls.
 #[derive(Drop, Debug)]
 pub struct MemDisk {
     alloc: Global,
@@ -36,8 +36,8 @@ impl Model for MemDisk {
 }
 
 impl MemDisk {
-    /// A disk that holds these bytes, all of them synced. `fails` are the numbers, from 0, of the calls that are to
-    /// fail.
+    /// Makes a disk with these bytes, all of them synced. `fails` are the numbers of the calls that are to fail, counted
+    /// from 0.
     pub fn new(alloc: Global, bytes: Vec<u8>, fails: Vec<u64>) -> Self
         ensures content { result.content ≡ bytes.items }
         ensures steps { result.steps ≡ [] }
@@ -51,9 +51,10 @@ impl MemDisk {
         }
     }
 
-    /// The disk after a crash: with choice 0 no byte written since the last sync has arrived, and with choice 1 all
-    /// have. With a choice from 2 on the byte at place `p` has arrived where bit `p mod 8` of it is set; the length is
-    /// the new one, and bytes past the old end that have not arrived are 0. No call of the new disk is to fail.
+    /// The disk after a crash. With choice 0 no byte written since the last sync has arrived, and with choice 1 all have.
+    /// With any other choice the byte at place `p` has arrived if bit `p mod 8` of the choice is set; the length is the new
+    /// one, and bytes past the synced end that have not arrived are 0. No call of the new disk is to fail. After
+    /// `OutOfMemory` the disk comes back unchanged.
     pub fn crash(self, alloc: Global, choice: u64) -> Result<MemDisk, Refused<OutOfMemory, MemDisk>>
         ensures left { IfOk result (λ disk. disk.content ≡ crashed choice self.content self.steps) }
         ensures image { IfOk result (λ disk. IsImage self.content self.steps disk.content) }
@@ -70,14 +71,14 @@ impl MemDisk {
         }
     }
 
-    /// What a read gives.
+    /// The bytes that reads return.
     pub fn bytes(&self) -> &[u8]
         ensures { result.now ≡ self.now.content }
     {
         &self.bytes
     }
 
-    /// How many calls it had.
+    /// The number of calls made so far.
     pub fn calls(&self) -> u64
         ensures { result ≡ self.now.schedule.calls }
     {
@@ -85,7 +86,8 @@ impl MemDisk {
     }
 }
 
-/// Writes over bytes and past their end, or changes nothing. Gives what stood in the range before.
+/// Writes over bytes and past their end, and returns the bytes that were in the range before; on an error nothing has
+/// changed.
 fn overwrite(
     alloc: Global,
     bytes: &mut Vec<u8>,
@@ -107,7 +109,7 @@ fn overwrite(
     Ok(before)
 }
 
-/// Writes over bytes and records it, or changes nothing.
+/// Writes over bytes and records the step; on an error nothing has changed.
 fn record_write(
     alloc: Global,
     bytes: &mut Vec<u8>,
@@ -132,7 +134,7 @@ fn record_write(
     Ok(())
 }
 
-/// Records a sync, or changes nothing.
+/// Records a sync; on an error nothing has changed.
 fn record_sync(steps: &mut Vec<DiskStep>) -> Result<(), AllocError>
     ensures recorded { OnOk result (steps.new.items ≡ steps.old.items ++ DiskStep.Synced ∷ []) }
     ensures unrecorded { OnErr result (steps.new.items ≡ steps.old.items) }
@@ -181,7 +183,7 @@ impl Disk for MemDisk {
 
     fn read(&mut self, at: u64, into: &mut [u8]) -> Result<(), Failed>
         requires { at + length into.old ≤ length self.old.content }
-        // What a read gives.
+        // What a read returns.
         ensures bytes { OnOk result (into.new ≡ take (length into.old) (drop at self.old.content)) }
         ensures unfilled { OnErr result (into.new ≡ into.old) }
         ensures same { self.new.content ≡ self.old.content }
@@ -206,10 +208,10 @@ impl Disk for MemDisk {
         Ok(())
     }
 
-    /// A write that finds no memory fails too, and has changed nothing.
+    /// Also fails, and changes nothing, where memory runs out.
     fn write_at(&mut self, at: u64, from: &[u8]) -> Result<(), Failed>
         requires { at ≤ length self.old.content }
-        // What a read gives, and the record of the write.
+        // What reads return, and the record of the write.
         ensures written { OnOk result (self.new.content ≡ overwritten self.old.content at from.now) }
         ensures recorded { OnOk result (self.new.steps
             ≡ DiskStep.Wrote at (length from.now) (take (length from.now) (drop at self.old.content)) ∷ self.old.steps) }
@@ -246,7 +248,7 @@ impl Disk for MemDisk {
         }
     }
 
-    /// A sync that finds no memory fails too.
+    /// Also fails where memory runs out.
     fn sync(&mut self) -> Result<(), Failed>
         // What a crash leaves, and the record of the sync.
         ensures durable { OnOk result (Only self.old.content (IsImage self.new.content self.new.steps)) }

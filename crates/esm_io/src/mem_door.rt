@@ -35,7 +35,7 @@ impl Model for MemDoor {
 }
 
 impl MemDoor {
-    /// `fails` are the numbers, from 0, of the calls of `accept` that are to fail.
+    /// Makes a door with these connections. `fails` are the numbers of the `accept` calls that are to fail, counted from 0.
     pub fn new(alloc: Global, links: Vec<MemLink>, fails: Vec<u64>) -> Self
         requires { All IsUnused links.items }
         ensures links { result.links ≡ links.items }
@@ -64,9 +64,9 @@ impl Door for MemDoor {
 
     ghost closed = { λ s. Some (map closed_link s.closed) };
 
-    /// Fails too where no connection is left. A call that is to fail takes none.
+    /// Also fails where no connection is left. A call that fails takes none.
     fn accept(&mut self) -> Result<MemLink, Failed>
-        // As of any door.
+        // What any door promises.
         ensures fresh { IfOk result (λ conn. IsFresh (Some conn.talk)) }
         ensures faultless { IfOk result (λ conn. conn.schedule.faults ≡ 0) }
         ensures kept { self.new.closed ≡ self.old.closed }

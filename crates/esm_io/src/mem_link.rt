@@ -12,8 +12,8 @@ use crate::schedule::Schedule;
 use std::alloc::Global;
 use std::marker::Model;
 
-/// A connection in memory. It gives and takes at most `piece` bytes a call, and tells what it read, has left and
-/// wrote.
+/// A connection in memory. It gives and takes at most `piece` bytes in a call, and shows to contracts what it has read, has
+/// left and has written.
 #[derive(Drop, Debug)]
 pub struct MemLink {
     bytes: Vec<u8>,
@@ -39,7 +39,8 @@ impl Model for MemLink {
 }
 
 impl MemLink {
-    /// `bytes` are to be read. `fails` are the numbers, from 0, of the reads and writes that are to fail.
+    /// Makes a connection from which `bytes` can be read. `fails` are the numbers of the reads and writes that are to fail,
+    /// counted from 0.
     pub fn new(alloc: Global, bytes: Vec<u8>, piece: usize, fails: Vec<u64>) -> Self
         requires { 0 < piece }
         ensures unused { IsUnused result }
@@ -90,7 +91,7 @@ impl Link for MemLink {
         Ok(give_front(&self.bytes, &mut self.at, self.piece, into))
     }
 
-    /// A write that finds no memory fails too.
+    /// Also fails where memory runs out.
     fn write(&mut self, from: &[u8]) -> Result<usize, Failed>
         ensures within { IfOk result (λ n. n ≤ length from.now) }
         ensures some { IfOk result (λ n. 0 < length from.now → 0 < n) }

@@ -11,7 +11,7 @@ use crate::sink::Sink;
 use std::alloc::Global;
 use std::marker::Model;
 
-/// A sink in memory. It takes at most `piece` bytes a write, and tells what it took.
+/// A sink in memory. It takes at most `piece` bytes in a write, and shows to contracts what it took.
 #[derive(Drop, Debug)]
 pub struct MemSink {
     written: Vec<u8>,
@@ -31,7 +31,7 @@ impl Model for MemSink {
 }
 
 impl MemSink {
-    /// `fails` are the numbers, from 0, of the writes that are to fail.
+    /// Makes a sink. `fails` are the numbers of the writes that are to fail, counted from 0.
     pub fn new(alloc: Global, piece: usize, fails: Vec<u64>) -> Self
         requires { 0 < piece }
         ensures written { result.written ≡ [] }
@@ -58,7 +58,7 @@ impl Sink for MemSink {
 
     ghost written = { λ s. Some s.written };
 
-    /// A write that finds no memory fails too.
+    /// Also fails where memory runs out.
     fn write(&mut self, from: &[u8]) -> Result<usize, Failed>
         ensures within { IfOk result (λ n. n ≤ length from.now) }
         ensures some { IfOk result (λ n. 0 < length from.now → 0 < n) }

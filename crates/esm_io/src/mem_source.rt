@@ -10,7 +10,7 @@ use crate::schedule::Schedule;
 use crate::source::Source;
 use std::marker::Model;
 
-/// A source in memory. It gives at most `piece` bytes a read, and tells what is left.
+/// A source in memory. It gives at most `piece` bytes in a read, and shows to contracts what is left.
 #[derive(Drop, Debug)]
 pub struct MemSource {
     bytes: Vec<u8>,
@@ -31,7 +31,7 @@ impl Model for MemSource {
 }
 
 impl MemSource {
-    /// `fails` are the numbers, from 0, of the reads that are to fail.
+    /// Makes a source of these bytes. `fails` are the numbers of the reads that are to fail, counted from 0.
     pub fn new(bytes: Vec<u8>, piece: usize, fails: Vec<u64>) -> Self
         requires { 0 < piece }
         ensures left { result.left ≡ bytes.items }

@@ -1,10 +1,10 @@
-// Moving bytes a piece at a time, for the sources, sinks and connections in memory.
+// How the sources, sinks and connections in memory move bytes, one piece at a time.
 ghost use Rattle.std.specs.Prelude.{◌≡◌, ◌+◌, ◌<◌, ◌≤◌, ◌++◌, min, length, take, drop, IfOk, OnErr};
 
 use std::alloc::AllocError;
 
-/// Puts bytes from `at` on at the front of `into`, as many as there are in both and in a piece. Answers how many,
-/// and moves `at` behind them.
+/// Copies bytes from `at` on to the front of `into`, as many as both have, at most a piece. Returns their number and
+/// advances `at` by it.
 pub fn give_front(bytes: &[u8], at: &mut usize, piece: usize, into: &mut [u8]) -> usize
     requires { at.old ≤ length bytes.now }
     ensures count { result ≡ min (min (length into.old) piece) (length (drop at.old bytes.now)) }
@@ -22,7 +22,7 @@ pub fn give_front(bytes: &[u8], at: &mut usize, piece: usize, into: &mut [u8]) -
     count
 }
 
-/// Adds bytes from the front of `from`, at most a piece, and answers how many.
+/// Appends the bytes at the front of `from`, at most a piece, and returns their number.
 pub fn take_front(bytes: &mut Vec<u8>, from: &[u8], piece: usize) -> Result<usize, AllocError>
     ensures count { IfOk result (λ n. n ≡ min (length from.now) piece) }
     ensures taken { IfOk result (λ n. bytes.new.items ≡ bytes.old.items ++ take n from.now) }

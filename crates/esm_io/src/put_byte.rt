@@ -1,4 +1,4 @@
-// Putting one byte over another on a synced disk, with a sync, so that a crash harms no other byte.
+// Overwrites one byte of a synced disk and syncs, so that a crash harms no other byte.
 ghost use Rattle.std.specs.Prelude.{◌≡◌, ◌<◌, true, [], ◌∷◌, length, OnOk, OnErr};
 ghost use Rattle.esm_io.specs.Faults.{IsCount, Rose};
 ghost use Rattle.esm_io.specs.Images.{overwritten, Torn, Only, LeavesOnly};
@@ -6,8 +6,8 @@ ghost use Rattle.esm_io.specs.Images.{overwritten, Torn, Only, LeavesOnly};
 use crate::disk::Disk;
 use crate::failed::Failed;
 
-/// Puts a byte over the one at a place of a disk on which all is synced, and syncs. A crash at any moment leaves
-/// each other byte; after Ok it leaves what a read gives. `Failed` only where the disk's count of faults rose.
+/// Overwrites the byte at a place of a disk on which everything is synced, and syncs. A crash at any moment leaves every
+/// other byte, and after `Ok` it leaves what reads return. `Failed` is returned only where the disk's count of faults rose.
 pub fn put_byte<D: Disk>(disk: &mut D, place: u64, byte: u8) -> Result<(), Failed>
     requires honest { D.honest disk.old ≡ true }
     requires synced { Only (D.content disk.old) (D.image disk.old) }

@@ -32,14 +32,14 @@ impl Schedule {
         }
     }
 
-    /// The calls so far.
+    /// The number of calls so far.
     pub fn calls(&self) -> u64
         ensures { result ≡ self.now.calls }
     {
         self.calls
     }
 
-    /// Counts a call, and tells whether it is to fail; one that is to fail is a fault.
+    /// Counts a call, and returns whether it is to fail; if so, it counts a fault too.
     pub fn fails_now(&mut self) -> bool
         ensures due { result ≡ is_due self.old }
         ensures counted { self.new ≡ after_call self.old }
@@ -57,7 +57,7 @@ impl Schedule {
         fails
     }
 
-    /// Counts a fault of a call that found no memory.
+    /// Counts the fault of a call that ran out of memory.
     pub fn fault(&mut self)
         ensures counted { self.new ≡ after_fault self.old }
         ensures count { IsCount self.old.faults self.new.faults }

@@ -1,4 +1,4 @@
-// The scripts of a caller in memory: which reply the function gives to each event.
+// The scripts of a caller in memory: which reply it gives to each event.
 ghost use Rattle.std.specs.Prelude.{◌≡◌, slice_index_or, IfOk};
 ghost use Rattle.esm_io.specs.Script.{answer_of, is_within, plain_reply, error_reply};
 
@@ -6,18 +6,18 @@ use esm_model::{Bytes, OutOfMemory, Reply};
 use memchr::memmem;
 use std::alloc::Global;
 
-/// What a scripted caller answers. It holds no `Lost`.
+/// What a scripted caller answers. A `ScriptCaller` requires that no reply of its script is `Lost`.
 #[derive(Drop, Debug)]
 pub enum Script {
     /// This reply to each call.
     Always(Reply),
-    /// These replies in order, and afterwards status 200 with no body. A lost call takes none of them.
+    /// These replies in order, and afterwards status 200 with no body. A call that is lost uses up none of them.
     Each(Vec<Reply>),
-    /// Status 200 with the function error where the event contains the text; else status 200 with no body.
+    /// Status 200 with the function error if the event contains the text; otherwise status 200. There is no body.
     Poison(Bytes),
 }
 
-/// The reply to an event, after so many that were given before.
+/// The reply to an event, after `given` replies.
 pub fn answer(
     alloc: Global,
     script: &Script,
@@ -33,7 +33,7 @@ pub fn answer(
     }
 }
 
-/// The reply at a place, or status 200 with no body past the end.
+/// The reply with this number, or status 200 with no body past the last one.
 fn reply_at(alloc: Global, replies: &[Reply], given: usize) -> Result<Reply, OutOfMemory>
     ensures { IfOk result (λ reply. reply ≡ slice_index_or replies.now given plain_reply) }
 {
@@ -55,7 +55,7 @@ fn empty_reply(alloc: Global, error: bool) -> Reply
     }
 }
 
-/// The text stands somewhere in the event.
+/// Whether the text occurs in the event.
 fn contains(event: &[u8], text: &[u8]) -> bool
     ensures { result ≡ is_within text.now event.now }
 {

@@ -1,4 +1,4 @@
-// A caller in memory that answers by a script, and keeps copies of its calls where it is told to.
+// A caller in memory that answers by a script, and keeps copies of its calls if asked to.
 ghost use Rattle.std.specs.Prelude.{◌≡◌, Some, [], ◌∷◌, ◌++◌, map, true, false, if◌then◌else◌, is_some, IfOk, IfSome, OnOk, OnErr};
 ghost use Rattle.esm_io.specs.Faults.{IsCount, Rose};
 ghost use Rattle.esm_io.specs.Told.{Grows};
@@ -16,8 +16,8 @@ use std::marker::Model;
 use std::mem;
 use std::snapshot::Snapshot;
 
-/// A caller in memory that answers by a script, and tells the calls made. Contracts see them all; copies that a program
-/// can read are kept only where it is made by `recording`, so a long run does not keep the events that it sent.
+/// A caller in memory that answers by a script. Contracts see all calls made. Copies that a program can read are kept only
+/// by a caller that `recording` made, so a long run does not keep the events that it sent.
 #[derive(Drop)]
 pub struct ScriptCaller {
     script: Script,
@@ -25,7 +25,7 @@ pub struct ScriptCaller {
     log: Vec<Snapshot<Called>>,
     copies: Option<Vec<Called>>,
     schedule: Schedule,
-    // Memory for the event of the next call, from that of the last one.
+    // Memory for the event of the next call, reused from that of the last one.
     spare: Vec<u8>,
 }
 
@@ -49,7 +49,7 @@ impl Model for ScriptCaller {
 }
 
 impl ScriptCaller {
-    /// `fails` are the numbers, from 0, of the calls that are to be lost.
+    /// Makes a caller that keeps no copies. `fails` are the numbers of the calls that are to be lost, counted from 0.
     pub fn new(alloc: Global, script: Script, fails: Vec<u64>) -> Self
         requires { HasNoLost script }
         ensures { result ≡ new_caller script fails.items false }
@@ -57,7 +57,7 @@ impl ScriptCaller {
         Self::with_copies(alloc, script, fails, None)
     }
 
-    /// The same, and it keeps copies of the calls.
+    /// Makes a caller like `new` does, which keeps copies of its calls.
     pub fn recording(alloc: Global, script: Script, fails: Vec<u64>) -> Self
         requires { HasNoLost script }
         ensures { result ≡ new_caller script fails.items true }
@@ -97,7 +97,7 @@ impl ScriptCaller {
     }
 }
 
-/// A call as it is told, in this memory for its event.
+/// A call as it is logged. Its event is written into the memory of `spare`.
 fn called(
     alloc: Global,
     mut spare: Vec<u8>,
@@ -116,12 +116,13 @@ fn called(
     })
 }
 
-/// The memory of the call's event.
+/// The memory of the event of a call.
 fn memory_of(called: Called) -> Vec<u8> {
     called.event.into_vec()
 }
 
-/// Puts a call at the end of the log, and of the copies where there are any; else its event's memory comes back.
+/// Adds a call to the end of the log, and of the copies if there are any; otherwise its event's memory is returned for
+/// reuse.
 fn log_call(
     alloc: Global,
     log: &mut Vec<Snapshot<Called>>,

@@ -1,20 +1,20 @@
-// The sink, where bytes go out, as to standard output.
+// The trait of sinks, to which bytes are written, such as standard output.
 ghost use Rattle.std.specs.Prelude.{◌≡◌, ◌<◌, ◌≤◌, ℕ, List, Option, length, take, IfOk, OnErr};
 ghost use Rattle.esm_io.specs.Faults.{IsCount, Rose};
 ghost use Rattle.esm_io.specs.Told.{Grows};
 
 use crate::failed::Failed;
 
-/// Where bytes go out, as standard output.
+/// A sink, to which bytes are written, as to standard output.
 pub trait Sink {
     /// How often it has failed.
     ghost faults: { Self → ℕ };
 
-    /// The bytes that it took, where it tells them.
+    /// The bytes that it took, if it shows them.
     ghost written: { Self → Option (List ℕ) };
 
-    /// Takes bytes from the front of `from` and answers how many: at least 1 where there are any.
-    /// `Failed` only where the count of faults rose; it has taken nothing then.
+    /// Takes bytes from the front of `from` and returns their number, which is at least 1 if there are any. `Failed` is
+    /// returned only where the count of faults rose; nothing was taken then.
     fn write(&mut self, from: &[u8]) -> Result<usize, Failed>
         ensures within { IfOk result (λ n. n ≤ length from.now) }
         ensures some { IfOk result (λ n. 0 < length from.now → 0 < n) }

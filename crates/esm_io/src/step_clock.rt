@@ -1,17 +1,17 @@
-// A clock that stands still until a pause moves it on, for runs in memory.
+// A clock that stands still unless a pause advances it, for runs in memory.
 ghost use Rattle.std.specs.Prelude.{true};
 
 use crate::clock::Clock;
 use std::sync::atomic::{AtomicU64, Ordering};
 
-/// A clock that stands still: `now` answers its moment, and `pause` raises it.
+/// A clock that stands still: `now` returns its moment, and `pause` advances it.
 #[derive(Drop)]
 pub struct StepClock {
     moment: AtomicU64,
 }
 
 impl StepClock {
-    /// It stands at this moment, in milliseconds since 1970.
+    /// Makes a clock that stands at this moment, in milliseconds since 1970.
     pub fn new(moment: u64) -> Self {
         StepClock {
             moment: AtomicU64::new(moment),

@@ -1,4 +1,4 @@
--- What a call says that adds a payload to a file, whichever kind of journal the file is of.
+-- What a call that adds a payload to a file says, for either kind of journal.
 use Rattle.std.specs.Prelude.{◌≡◌, ◌<◌, ◌++◌, ◌∷◌, [], ℕ, true, false, List, length, Result, OnOk, OnErr, IsErrOf}
 use Rattle.esm_io.specs.Faults.{IsCount, Rose}
 use Rattle.esm_io.specs.Meanings.{DiskMeaning}
@@ -14,15 +14,15 @@ use Rattle.esm_journal.specs.Pair.{PairState}
 abbrev pub file_in_use : {D : Type 0} → PairState D → JournalState D
 file_in_use pair = record { payloads = pair.payloads; down = pair.down; room = pair.room; disk = pair.used }
 
--- This payload was added to the file, or the call was refused: what each answer tells of the file as it was and as it is.
+-- This payload was added to the file, or the call was refused: what each answer says of the file before and after.
 pub record IsAppended {A D : Type 0} (m : DiskMeaning D) (payload : List ℕ) (old new : JournalState D) (result : Result A AppendError) : Type 0 where
-  -- after Ok the payload stands behind those that were there
+  -- after Ok the payload is behind those that were there
   pub added : OnOk result (new.payloads ≡ old.payloads ++ payload ∷ [])
   -- and these are the bytes of the file
   pub bytes : m.honest old.disk ≡ true → OnOk result (m.content new.disk ≡ with_payload old.payloads payload (m.content old.disk))
-  -- it took the room that was made for it
+  -- it used the room that was reserved for it
   pub room : OnOk result (new.room ≡ room_after old.room (length payload))
-  -- and the next payload may come
+  -- and the next payload may be added
   pub up : OnOk result (new.down ≡ false)
   -- after an error the payloads are those from before
   pub not_added : OnErr result (new.payloads ≡ old.payloads)
@@ -32,15 +32,15 @@ pub record IsAppended {A D : Type 0} (m : DiskMeaning D) (payload : List ℕ) (o
   pub cause : IsErrOf result DiskFault → Rose (m.faults old.disk) (m.faults new.disk)
   -- after `OutOfMemory` nothing has changed
   pub no_memory : IsErrOf result OutOfMemory → new ≡ old
-  -- and no room had been made
+  -- and no room was reserved for it
   pub has_room : HasRoom old.room (length payload) → IsErrOf result OutOfMemory → ⊥
   -- after `Down` nothing has changed, and the journal was down
   pub down : IsErrOf result Down → (new ≡ old) × (old.down ≡ true)
-  -- which is answered whenever it was
+  -- `Down` is returned whenever it was
   pub is_down : old.down ≡ true → IsErrOf result Down
   -- after `TooLong` nothing has changed, and the payload is above the limit
   pub too_long : (n : ℕ) → IsErrOf result (TooLong n) → (new ≡ old) × (old.down ≡ false) × (n ≡ length payload) × (MAX_PAYLOAD < length payload)
-  -- which is answered whenever it is and the journal was not down
+  -- `TooLong` is returned whenever it is and the journal was not down
   pub is_too_long : old.down ≡ false → MAX_PAYLOAD < length payload → IsErrOf result (TooLong (length payload))
   -- the disk is as honest as it was
   pub honesty : m.honest new.disk ≡ m.honest old.disk

@@ -9,7 +9,7 @@ use Rattle.esm_model.specs.declared.limits.TheConstants.{MAX_PAYLOAD}
 abbrev pub header_of : ℕ → List ℕ
 header_of digit = 69 ∷ 83 ∷ 77 ∷ 74 ∷ 48 ∷ 48 ∷ 48 ∷ (48 + digit) ∷ []
 
--- the length and the payload, as they stand behind a gate
+-- the length and the payload, which follow a gate
 abbrev pub entry : List ℕ → List ℕ
 entry payload = to_be_bytes w32 (length payload) ++ payload
 
@@ -18,11 +18,11 @@ abbrev pub entries : List (List ℕ) → List ℕ
 entries [] = []
 entries (payload ∷ payloads) = 1 ∷ [] ++ entry payload ++ entries payloads
 
--- all that stands before the last gate
+-- all that precedes the last gate
 abbrev pub front : List ℕ → ℕ → List (List ℕ) → List ℕ
 front header epoch payloads = header ++ to_be_bytes w64 epoch ++ 1 ∷ [] ++ entries payloads
 
--- where the last gate stands
+-- the place of the last gate
 abbrev pub end_of : List (List ℕ) → ℕ
 end_of payloads = 17 + length (entries payloads)
 
@@ -55,21 +55,20 @@ preceded payload (Holding epoch payloads) = Holding epoch (payload ∷ payloads)
 preceded payload Foreign = Foreign
 preceded payload (Damaged place) = Damaged place
 
--- the number that the first four bytes write
+-- the number in the first four bytes
 abbrev pub number_in : List ℕ → ℕ
 number_in bytes = from_be_bytes w32 (take 4 bytes)
 
--- What an open entry at this place says, given what follows behind its open gate and what the rest of the file says. A
--- length that is cut short is damage at the file's end, one above the limit is damage at its own place.
+-- What an open entry at this place says, given what follows its open gate and what the rest of the file says. A length that
+-- is cut short is damage at the file's end; one above the limit is damage at its own place.
 abbrev pub opened_entry : ℕ → List ℕ → Opening → Opening
 opened_entry place behind rest =
     if nat_lt (length behind) 4 then Damaged (place + 1 + length behind)
     else if nat_lt MAX_PAYLOAD (number_in behind) then Damaged (place + 1)
     else preceded (take (number_in behind) (drop 4 behind)) rest
 
--- What the part of a file from this place on says. So many bytes are to be passed before the next gate; where the file
--- ends before that gate it is damaged at its end. The first gate that is not open ends the payloads, whatever stands
--- after it.
+-- What the part of a file from this place on says. There are `skip` bytes before the next gate; a file that ends before that
+-- gate is damaged at its end. The first gate that is not open ends the payloads, whatever follows it.
 abbrev pub read_from : ℕ → ℕ → ℕ → List ℕ → Opening
 read_from epoch place skip [] = Damaged place
 read_from epoch place (suc skip) (byte ∷ bytes) = read_from epoch (place + 1) skip bytes
@@ -84,7 +83,7 @@ eight_at bytes n =
     slice_index bytes n ∷ slice_index bytes (n + 1) ∷ slice_index bytes (n + 2) ∷ slice_index bytes (n + 3)
     ∷ slice_index bytes (n + 4) ∷ slice_index bytes (n + 5) ∷ slice_index bytes (n + 6) ∷ slice_index bytes (n + 7) ∷ []
 
--- the epoch that stands behind the header
+-- the epoch, which follows the header
 abbrev pub epoch_in : List ℕ → ℕ
 epoch_in bytes = from_be_bytes w64 (eight_at bytes 8)
 

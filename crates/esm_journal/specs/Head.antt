@@ -1,10 +1,10 @@
--- What is read of the front of a file.
+-- What is read of the first bytes of a file.
 use Rattle.std.specs.Prelude.{◌≡◌, ◌<◌, ◌^◌, List, ℕ, length, slice_index}
 use Rattle.std.specs.Int.{w64, to_be_bytes}
 use Rattle.esm_journal.specs.File.{eight_at, epoch_in}
 use Rattle.esm_journal.specs.declared.head.Head.{Head}
 
--- these are the front of this file, with 0 for each byte that is missing
+-- this was read of the first bytes of the file, with 0 for each byte that is missing
 pub record IsHead (bytes : List ℕ) (head : Head) : Type 0 where
   pub size : head.size ≡ length bytes
   pub first : head.first ≡ eight_at bytes 0

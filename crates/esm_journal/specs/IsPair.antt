@@ -8,8 +8,8 @@ use Rattle.esm_journal.specs.Pair.{IsSpare, IsOther}
 use Rattle.esm_journal.specs.Stopped.{PairStillOpens}
 use Rattle.esm_journal.specs.declared.log.Log.{Log}
 
--- Where the spare disk is honest and no call failed, it is settled and does not hinder the one in use. After a call that
--- failed each image of both opens to the payloads, or to what the call was to leave.
+-- While no call failed, an honest spare disk is synced and is a spare beside the one in use. After a call that failed, any
+-- images of both open to the payloads, or to what the call would have left.
 pub record IsPair {D : Type 0} (m : DiskMeaning D) (log : Log D) (spare : D) (spare_sealed : Bool) : Type 0 where
   pub header : log.header ≡ header_of 2
   pub beside : m.honest log.disk ≡ true → m.honest spare ≡ true → log.down ≡ false → IsSpare (header_of 2) log.epoch (m.content spare)

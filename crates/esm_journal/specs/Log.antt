@@ -1,4 +1,4 @@
--- A file that is open: what is kept of it in memory, and what the disk holds.
+-- An open file: what is kept of it in memory, and what the disk holds.
 use Rattle.std.specs.Prelude.{◌≡◌, ◌+◌, ◌≤◌, ◌<◌, ◌^◌, ◌⊎◌, ℕ, true, false, List, [], ◌∷◌, ◌++◌, length, vec_len, vec_capacity}
 use Rattle.esm_io.specs.Meanings.{DiskMeaning}
 use Rattle.esm_io.specs.Images.{Only}
@@ -21,7 +21,7 @@ abbrev pub IsStopped : (List ℕ → Type 0) → List ℕ → ℕ → List (List
 IsStopped images header epoch payloads =
     (payload : List ℕ) × ((bytes : List ℕ) → images bytes → IsEither header epoch payloads (payloads ++ payload ∷ []) bytes)
 
--- Where the disk is honest and no call of it failed, its file holds exactly these payloads, and is the only image. After a
+-- If the disk is honest and no call of it failed, its file holds exactly these payloads, and is the only image. After a
 -- call that failed each image holds these, or these and one more.
 pub record IsLog {D : Type 0} (m : DiskMeaning D) (log : Log D) : Type 0 where
   pub header : length log.header ≡ 8

@@ -15,7 +15,7 @@ use Rattle.esm_journal.specs.declared.error.OpenError.TheVariants.{DiskFault}
 abbrev pub is_version_2 : List ℕ → List ℕ → Bool
 is_version_2 first second = is_sealed (header_of 2) first || is_sealed (header_of 2) second
 
--- a next epoch can be written; else the epoch counts as damage at its place
+-- what was opened, provided that its epoch has a next one; else the epoch counts as damage at its place
 abbrev pub with_next_epoch : Opening → Opening
 with_next_epoch (Holding epoch payloads) = if epoch == 18446744073709551615 then Damaged 8 else Holding epoch payloads
 with_next_epoch Foreign = Foreign
@@ -32,8 +32,8 @@ MigratesTo epoch payloads one other =
     ((is_version_2 one other ≡ false) × (pair_opened (header_of 1) one other ≡ Holding epoch payloads))
     ⊎ (pair_opened (header_of 2) one other ≡ Holding (epoch + 1) payloads)
 
--- Two disks of version 1 gave these bytes. Where they hold a list that can be written anew, each image since then opens to
--- it as version 1, or to the same list as version 2.
+-- Two disks of version 1 gave these bytes. If these hold a list, any images since then open to it as version 1, or to the
+-- same list as version 2.
 abbrev pub IsMoving : {D : Type 0} → DiskMeaning D → List ℕ → List ℕ → D → D → D → D → Type 0
 IsMoving m one_was other_was first second first' second' =
     (epoch : ℕ) (payloads : List (List ℕ)) → pair_opened (header_of 1) one_was other_was ≡ Holding epoch payloads →
@@ -45,16 +45,16 @@ pub record IsWrittenAnew {D : Type 0} (content : D → List ℕ) (first second :
   pub written : content pair.used ≡ rewritten (header_of 2) pair.epoch pair.payloads (content (if pair.swapped then second else first))
   pub kept : content pair.spare ≡ content (if pair.swapped then first else second)
 
--- and so it is of disks of version 1 that each had one image
+-- `IsMoving` holds of honest disks of version 1 that each had one image
 abbrev pub MovesIfOld : {D : Type 0} → DiskMeaning D → D → D → D → D → Type 0
 MovesIfOld m first second first' second' =
     m.honest first ≡ true → m.honest second ≡ true → is_version_2 (m.content first) (m.content second) ≡ false →
     Only (m.content first) (m.image first) → Only (m.content second) (m.image second) →
     IsMoving m (m.content first) (m.content second) first second first' second'
 
--- what a call leaves of the disk that it writes such a list over, whether or not it comes to an end
+-- what a call that writes such a list leaves of the disk that it overwrites, whether it succeeds or fails
 pub record IsOverwrittenAnew {D : Type 0} (m : DiskMeaning D) (epoch : ℕ) (payloads : List (List ℕ)) (old new : D) : Type 0 where
-  -- each image since then hinders a file in use no more than the disk did, or is the new file
+  -- each image since then is a spare beside a file in use, if the disk was one, or is the new file
   pub any_moment : m.honest old ≡ true → (kept : List ℕ) (lower : ℕ) → IsSpare kept lower (m.content old) →
       LeavesOnly m.moment m.since old new (IsSpareOrNew kept lower (header_of 2) (epoch + 1) payloads)
   -- it is as honest as it was
@@ -81,18 +81,18 @@ pub record IsMadeAnew {D : Type 0} (m : DiskMeaning D) (epoch : ℕ) (payloads :
   pub kept : m.honest pair.used ≡ true → m.honest pair.spare ≡ true → PairKeeps m (header_of 2) pair.epoch pair.payloads pair.used pair.spare
   pub over : IsOverwrittenAnew m epoch payloads other pair.used
 
--- a disk failed before it was
+-- a disk failed before that was done
 pub record IsNotMadeAnew {D : Type 0} (m : DiskMeaning D) (epoch : ℕ) (payloads : List (List ℕ)) (used other used' other' : D) : Type 0 where
   -- the disk in use is as it was
   pub kept : used' ≡ used
-  -- the other may be written
+  -- the other may have been written
   pub over : IsOverwrittenAnew m epoch payloads other other'
   -- and its count of faults rose
   pub cause : Rose (m.faults other) (m.faults other')
 
 -- a pair of version 1 was opened and written anew
 pub record IsOpenedAnew {D : Type 0} (m : DiskMeaning D) (journal spare : D) (pair : PairState D) : Type 0 where
-  -- the payloads are those that version 1 has, under the next epoch
+  -- the payloads are those found as version 1, under the next epoch
   pub found : m.honest journal ≡ true → m.honest spare ≡ true →
       (epoch : ℕ) × (with_next_epoch (pair_opened (header_of 1) (m.content journal) (m.content spare)) ≡ Holding epoch pair.payloads) × (pair.epoch ≡ epoch + 1)
   -- and these are the bytes of both disks
@@ -100,27 +100,27 @@ pub record IsOpenedAnew {D : Type 0} (m : DiskMeaning D) (journal spare : D) (pa
   -- payloads may be added, and no room is made for them
   pub up : pair.down ≡ false
   pub room : pair.room ≡ []
-  -- what a crash leaves once it is, and what one left since disks that were only read before
+  -- what a crash leaves afterwards, and what one left since a state from which the disks were only read
   pub kept : m.honest journal ≡ true → m.honest spare ≡ true → PairKeeps m (header_of 2) pair.epoch pair.payloads pair.used pair.spare
   pub images : (first second : D) → IsOnlyRead m first journal → IsOnlyRead m second spare → MovesIfOld m first second (first_disk pair) (second_disk pair)
   -- each disk is as honest as it was, and its count of faults does not fall
   pub honesty : (m.honest (first_disk pair) ≡ m.honest journal) × (m.honest (second_disk pair) ≡ m.honest spare)
   pub faults : (m.faults journal ≤ m.faults (first_disk pair)) × (m.faults spare ≤ m.faults (second_disk pair))
 
--- it was refused, and the disks handed back
+-- the call was refused, and returns the disks
 pub record IsNotOpenedAnew {D : Type 0} (m : DiskMeaning D) (journal spare : D) (why : OpenError) (journal' spare' : D) : Type 0 where
-  -- for what version 1 has there, or for a fault
+  -- for what was found as version 1, or for a fault
   pub refused : PairRefusedFor m (λ one other. with_next_epoch (pair_opened (header_of 1) one other)) journal spare journal' spare' why
-  -- only after `DiskFault` may a disk be written
+  -- only after `DiskFault` may a disk have been written
   pub first_back : (why ≡ DiskFault → ⊥) → IsOnlyRead m journal journal'
   pub second_back : (why ≡ DiskFault → ⊥) → IsOnlyRead m spare spare'
-  -- what a crash left since disks that were only read before
+  -- what a crash left since a state from which the disks were only read
   pub images : (first second : D) → IsOnlyRead m first journal → IsOnlyRead m second spare → MovesIfOld m first second journal' spare'
   -- each disk is as honest as it was, and its count of faults does not fall
   pub honesty : (m.honest journal' ≡ m.honest journal) × (m.honest spare' ≡ m.honest spare)
   pub faults : (m.faults journal ≤ m.faults journal') × (m.faults spare ≤ m.faults spare')
 
--- a pair was brought to version 2, which it had when it was found, or had not
+-- a pair is of version 2 now, and was before or was migrated
 pub record IsMigratedPair {D : Type 0} (m : DiskMeaning D) (journal spare : D) (pair : PairState D) (was : ℕ) : Type 0 where
   -- this is the version in which it was found
   pub version : m.honest journal ≡ true → m.honest spare ≡ true → was ≡ (if is_version_2 (m.content journal) (m.content spare) then 2 else 1)
@@ -135,21 +135,21 @@ pub record IsMigratedPair {D : Type 0} (m : DiskMeaning D) (journal spare : D) (
   -- payloads may be added, and no room is made for them
   pub up : pair.down ≡ false
   pub room : pair.room ≡ []
-  -- what a crash leaves once it is, and of a pair of version 1 since the call began
+  -- what a crash leaves afterwards, and of a pair of version 1 since the call began
   pub kept : m.honest journal ≡ true → m.honest spare ≡ true → PairKeeps m (header_of 2) pair.epoch pair.payloads pair.used pair.spare
   pub images : MovesIfOld m journal spare (first_disk pair) (second_disk pair)
   -- each disk is as honest as it was, and its count of faults does not fall
   pub honesty : (m.honest (first_disk pair) ≡ m.honest journal) × (m.honest (second_disk pair) ≡ m.honest spare)
   pub faults : (m.faults journal ≤ m.faults (first_disk pair)) × (m.faults spare ≤ m.faults (second_disk pair))
 
--- it was refused, and the disks handed back
+-- the migration was refused, and returns the disks
 pub record IsRefusedMigration {D : Type 0} (m : DiskMeaning D) (journal spare : D) (why : OpenError) (journal' spare' : D) : Type 0 where
-  -- for what it has in its version, or for a fault
+  -- for what was found in the pair's version, or for a fault
   pub refused : PairRefusedFor m migration journal spare journal' spare' why
-  -- only after `DiskFault` may a disk be written
+  -- only after `DiskFault` may a disk have been written
   pub first_back : (why ≡ DiskFault → ⊥) → IsOnlyRead m journal journal'
   pub second_back : (why ≡ DiskFault → ⊥) → IsOnlyRead m spare spare'
-  -- and none of a pair of version 2
+  -- and never one of a pair of version 2
   pub unwritten : m.honest journal ≡ true → m.honest spare ≡ true → is_version_2 (m.content journal) (m.content spare) ≡ true → IsOnlyRead m journal journal' × IsOnlyRead m spare spare'
   -- what a crash left of a pair of version 1 since the call began
   pub images : MovesIfOld m journal spare journal' spare'

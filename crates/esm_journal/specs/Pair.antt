@@ -17,7 +17,7 @@ is_sealed header bytes = pointwise nat_eq (eight_at bytes 0) header && (slice_in
 abbrev pub is_taken : List ℕ → List ℕ → List ℕ → Bool
 is_taken header bytes other = is_sealed header bytes && (not (is_sealed header other) || nat_lt (epoch_in other) (epoch_in bytes))
 
--- what the file that is taken says, beside another of so many bytes
+-- what the file that is taken says, beside another of `size` bytes, which has to have 18 at least
 abbrev pub beside : Opening → ℕ → Opening
 beside (Holding epoch payloads) size = if nat_lt size 18 then Damaged size else Holding epoch payloads
 beside Foreign size = Foreign
@@ -30,8 +30,8 @@ pair_opened header first second =
     else if is_taken header second first then beside (opened_rest second) (length first)
     else Foreign
 
--- Why a pair was refused of whose bytes this is the opening: neither file is taken, and these are the first eight bytes of the
--- first; the one that is taken is damaged at a place; or a disk's faults rose.
+-- Why a pair whose bytes open so was refused: neither file is taken, and these are the first eight bytes of the first; the
+-- one that is taken is damaged at a place; or a disk's faults rose.
 abbrev pub PairRefusedFor : {D : Type 0} → DiskMeaning D → (List ℕ → List ℕ → Opening) → D → D → D → D → OpenError → Type 0
 PairRefusedFor m opening first second first' second' why =
     RefusedFor
@@ -39,7 +39,7 @@ PairRefusedFor m opening first second first' second' why =
     (λ place. m.honest first ≡ true → m.honest second ≡ true → opening (m.content first) (m.content second) ≡ Damaged place)
     (Rose (m.faults first) (m.faults first') ⊎ Rose (m.faults second) (m.faults second')) why
 
--- beside a file of this epoch in use this one is not taken, nor does it hinder the other
+-- a spare: beside a file in use of this epoch it is not taken, and does not keep the other from being taken
 pub record IsSpare (header : List ℕ) (epoch : ℕ) (bytes : List ℕ) : Type 0 where
   pub long : 18 ≤ length bytes
   pub lower : is_sealed header bytes ≡ true → epoch_in bytes < epoch
@@ -76,7 +76,7 @@ first_disk s = if s.swapped then s.spare else s.used
 abbrev pub second_disk : {D : Type 0} → PairState D → D
 second_disk s = if s.swapped then s.used else s.spare
 
--- images of the disk in use and of the other open to these payloads, in whichever order they are handed in
+-- images of the disk in use and of the other open to these payloads, in either order
 abbrev pub PairOpensTo : List ℕ → ℕ → List (List ℕ) → List ℕ → List ℕ → Type 0
 PairOpensTo header epoch payloads used spare =
     (pair_opened header used spare ≡ Holding epoch payloads) × (pair_opened header spare used ≡ Holding epoch payloads)
@@ -90,7 +90,7 @@ pub record PairKeeps {D : Type 0} (m : DiskMeaning D) (header : List ℕ) (epoch
   pub spare_durable : Only (m.content spare) (m.image spare)
   pub opens : PairOpensTo header epoch payloads (m.content used) (m.content spare)
 
--- where both disks are honest and no call of them failed, they keep the payloads
+-- if both disks are honest and no call of them failed, they keep the payloads
 abbrev pub PairKeepsWhileUp : {D : Type 0} → DiskMeaning D → PairState D → Type 0
 PairKeepsWhileUp m pair = m.honest pair.used ≡ true → m.honest pair.spare ≡ true → pair.down ≡ false → PairKeeps m (header_of 2) pair.epoch pair.payloads pair.used pair.spare
 

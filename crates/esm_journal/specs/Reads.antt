@@ -25,7 +25,7 @@ RefusedFor foreign damaged rose (Damaged place) = damaged place
 RefusedFor foreign damaged rose DiskFault = rose
 RefusedFor foreign damaged rose OutOfMemory = Unit {0}
 
--- why a file was not made: the disk has so many bytes; or its faults rose
+-- why a file was not made: the disk has bytes, and this is their number; or its faults rose
 abbrev pub NotMadeFor : (ℕ → Type 0) → Type 0 → InitError → Type 0
 NotMadeFor not_empty rose (init_error.NotEmpty size) = not_empty size
 NotMadeFor not_empty rose init_error.DiskFault = rose

@@ -22,11 +22,11 @@ pub record IsUnsealed (header : List ℕ) (epoch : ℕ) (payloads : List (List �
   pub closed : seal ≢ 1
   pub bytes_are : bytes ≡ (header ++ to_be_bytes w64 epoch) ++ seal ∷ (entries payloads ++ 0 ∷ rest)
 
--- beside a file in use it hinders nothing, or it is the new file
+-- it is a spare beside the file in use, or it is the new file
 abbrev pub IsSpareOrNew : List ℕ → ℕ → List ℕ → ℕ → List (List ℕ) → List ℕ → Type 0
 IsSpareOrNew kept lower header epoch payloads bytes = IsSpare kept lower bytes ⊎ IsFile header epoch payloads bytes
 
--- images of a pair open to the payloads of this epoch, or to the list of the next
+-- images of a pair open to the payloads under this epoch, or to the list under the next
 abbrev pub PairOpensToOldOrNew : List ℕ → ℕ → List (List ℕ) → List (List ℕ) → List ℕ → List ℕ → Type 0
 PairOpensToOldOrNew header epoch payloads list one other =
     PairOpensTo header epoch payloads one other ⊎ PairOpensTo header (epoch + 1) list one other

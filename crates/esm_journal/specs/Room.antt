@@ -1,4 +1,4 @@
--- Memory that was made for the next payloads.
+-- Memory that was reserved for the next payloads.
 use Rattle.std.specs.Prelude.{◌≡◌, ◌+◌, ◌-◌, ◌≤◌, ℕ, List, [], ◌∷◌, length, nat_le, if◌then◌else◌, Vec, vec_len, vec_capacity}
 use Rattle.std.specs.declared.alloc.Global.{Global}
 use Rattle.esm_model.specs.declared.limits.TheConstants.{MAX_PAYLOAD}
@@ -8,11 +8,11 @@ abbrev pub HasRoom : List ℕ → ℕ → Type 0
 HasRoom [] n = ⊥
 HasRoom (length ∷ lengths) n = n ≤ length
 
--- and so it is where it is not too long for any file
+-- the same, if the payload is not too long for any file
 abbrev pub HasRoomIfShort : List ℕ → ℕ → Type 0
 HasRoomIfShort lengths n = n ≤ MAX_PAYLOAD → HasRoom lengths n
 
--- the lengths that are left after a payload; one that is longer than was made room for ends the promise
+-- the lengths that are left after a payload; a payload longer than the first of them ends the promise
 abbrev pub room_after : List ℕ → ℕ → List ℕ
 room_after [] n = []
 room_after (length ∷ lengths) n = if nat_le n length then lengths else []

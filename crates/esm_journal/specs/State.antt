@@ -37,10 +37,10 @@ pub record Keeps {D : Type 0} (m : DiskMeaning D) (header : List ℕ) (payloads 
 abbrev pub StillOpens : {D : Type 0} → DiskMeaning D → List ℕ → List (List ℕ) → D → Type 0
 StillOpens m header payloads disk = (payload : List ℕ) × ((bytes : List ℕ) → m.image disk bytes → OpensToEither header payloads payload bytes)
 
--- where the disk is honest and no call of it failed, it keeps the payloads
+-- if the disk is honest and no call of it failed, it keeps the payloads
 abbrev pub KeepsWhileUp : {D : Type 0} → DiskMeaning D → JournalState D → Type 0
 KeepsWhileUp m journal = m.honest journal.disk ≡ true → journal.down ≡ false → Keeps m (header_of 1) journal.payloads journal.disk
 
--- and where a call failed, a crash leaves the payloads, or these and the one that was being added
+-- and if a call failed, a crash leaves the payloads, or these and the one that was being added
 abbrev pub KeepsWhileDown : {D : Type 0} → DiskMeaning D → JournalState D → Type 0
 KeepsWhileDown m journal = m.honest journal.disk ≡ true → journal.down ≡ true → StillOpens m (header_of 1) journal.payloads journal.disk

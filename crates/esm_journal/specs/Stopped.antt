@@ -12,7 +12,7 @@ PairStillOpens m header epoch payloads first second =
     ((payload : List ℕ) × ((one other : List ℕ) → m.image first one → m.image second other → PairOpensToEither header epoch payloads payload one other))
     ⊎ ((list : List (List ℕ)) × ((one other : List ℕ) → m.image first one → m.image second other → PairOpensToOldOrNew header epoch payloads list one other))
 
--- and so it is of the disks of a pair, in the order in which they were handed in, where both are honest
+-- this holds of the disks of a pair that is down, in the order in which they were handed in, if both are honest
 abbrev pub PairKeepsWhileDown : {D : Type 0} → DiskMeaning D → PairState D → Type 0
 PairKeepsWhileDown m pair =
     m.honest pair.used ≡ true → m.honest pair.spare ≡ true → pair.down ≡ true → PairStillOpens m (header_of 2) pair.epoch pair.payloads (first_disk pair) (second_disk pair)

@@ -7,7 +7,7 @@ use Rattle.esm_journal.specs.File.{end_of, AreShort, IsFile}
 use Rattle.esm_journal.specs.Pair.{IsSpare, IsOther}
 use Rattle.esm_journal.specs.declared.pair_reading.Taken.{Taken}
 
--- the file in use holds the payloads, and the other does not hinder it
+-- the file in use holds the payloads, and the other is a spare beside it
 pub record IsTaken (header first second : List ℕ) (taken : Taken) : Type 0 where
   pub file : IsFile header taken.found.epoch taken.found.payloads.items (if taken.swapped then second else first)
   pub beside : IsSpare header taken.found.epoch (if taken.swapped then first else second)

@@ -1,4 +1,4 @@
-// The bytes of a file that were read ahead of their use, so that one read of the disk serves many entries.
+// Reads a file ahead, so that one read of the disk serves many entries.
 ghost use Rattle.std.specs.Prelude.{◌≡◌, ◌+◌, ◌-◌, ◌≤◌, ◌↔◌, IsTrue, true, ℕ, List, [], length, take, drop, IfOk, IfErr, OnOk, OnErr};
 ghost use Rattle.esm_io.specs.Faults.{Rose};
 ghost use Rattle.esm_io.specs.Meanings.{disk as meaning};
@@ -11,7 +11,7 @@ use esm_io::Disk;
 use esm_model::Bytes;
 use std::alloc::Global;
 
-/// How many bytes are read at once, where the file has so many left.
+/// How many bytes are read at once, or all that are left if the file has fewer.
 pub(crate) const READ_SIZE: usize = 65_536;
 
 /// Bytes of a file that were read ahead.
@@ -22,7 +22,7 @@ pub(crate) struct Ahead {
     pub(crate) bytes: Bytes,
 }
 
-/// So many bytes from a place on.
+/// Reads `count` bytes from `place` on.
 pub(crate) fn bytes_at<D: Disk>(
     alloc: Global,
     disk: &mut D,
@@ -43,7 +43,7 @@ pub(crate) fn bytes_at<D: Disk>(
 }
 
 impl Ahead {
-    /// No byte yet.
+    /// Nothing read ahead yet.
     pub(crate) fn new(alloc: Global) -> Self
         ensures { result.bytes ≡ [] }
     {
@@ -53,7 +53,7 @@ impl Ahead {
         }
     }
 
-    /// So many bytes from a place on are there.
+    /// Whether `count` bytes from `place` on were read.
     fn has(&self, place: u64, count: usize) -> bool
         ensures { IsTrue result ↔ (self.now.start ≤ place) × (place + count ≤ self.now.start + length self.now.bytes) }
     {
@@ -65,8 +65,8 @@ impl Ahead {
         passed <= size && count as u64 <= size - passed
     }
 
-    /// Sees to it that so many bytes from a place on are there. `size` is the file's length in bytes. After an `Err` the
-    /// bytes from before are there still.
+    /// Makes sure that `count` bytes from `place` on are read. `size` is the file's length in bytes. After an error the
+    /// bytes from before are kept.
     pub(crate) fn read_on<D: Disk>(
         &mut self,
         alloc: Global,
@@ -97,7 +97,7 @@ impl Ahead {
         Ok(())
     }
 
-    /// So many bytes from a place on, which are there.
+    /// The `count` bytes from `place` on, which were read.
     pub(crate) fn part(&self, place: u64, count: usize) -> &[u8]
         requires from { self.now.start ≤ place }
         requires to { place + count ≤ self.now.start + length self.now.bytes }

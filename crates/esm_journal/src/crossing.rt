@@ -1,4 +1,4 @@
-//! Journals and pairs move between threads where their disks do.
+//! Journals and pairs are `Send` if their disks are.
 
 use crate::file_dest::FileDest;
 use crate::journal::Journal;
@@ -7,7 +7,7 @@ use esm_io::Disk;
 
 fn crosses<T: Send>() {}
 
-/// A journal, a destination that is a file and a pair move between threads where their disks do.
+/// `Journal`, `FileDest` and `Pair` are `Send` if their disk is.
 pub fn files_cross<D: Disk + Send>() {
     crosses::<Journal<D>>();
     crosses::<FileDest<D>>();

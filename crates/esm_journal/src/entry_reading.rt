@@ -1,4 +1,4 @@
-// A file is read in pieces: its head, and then entry by entry up to the first gate that is not open.
+// Reads the entries of a file one after the other, up to the first gate that is not open.
 ghost use Rattle.std.specs.Prelude.{◌≡◌, ◌≢◌, ◌+◌, ◌<◌, ◌≤◌, true, ℕ, [], ◌∷◌, ◌++◌, length, take, drop, slice_index, IfOk, IfErr, IfSome, IfNone};
 ghost use Rattle.esm_io.specs.Faults.{Rose};
 ghost use Rattle.std.specs.Int.{w32, to_be_bytes, from_be_bytes};
@@ -35,7 +35,7 @@ fn byte_at<D: Disk>(
     Ok(ahead.part(place, 1)[0])
 }
 
-/// The number that four bytes write.
+/// The big-endian number in four bytes.
 fn number_of(four: &[u8]) -> u32
     requires { length four.now ≡ 4 }
     ensures number { result ≡ from_be_bytes w32 four.now }
@@ -44,7 +44,7 @@ fn number_of(four: &[u8]) -> u32
     u32::from_be_bytes([four[0], four[1], four[2], four[3]])
 }
 
-/// The number that the four bytes from a place on write.
+/// The big-endian number in the four bytes from `place` on.
 fn number_at<D: Disk>(
     alloc: Global,
     disk: &mut D,
@@ -68,7 +68,7 @@ fn number_at<D: Disk>(
     Ok(number_of(ahead.part(place, 4)))
 }
 
-/// The payload of so many bytes from a place on. A long one is not read ahead but by itself.
+/// The payload of `count` bytes from `place` on. One longer than `READ_SIZE` is read by itself, not ahead.
 fn payload_at<D: Disk>(
     alloc: Global,
     disk: &mut D,
@@ -96,7 +96,7 @@ fn payload_at<D: Disk>(
     Ok(Bytes::from_vec(bytes))
 }
 
-/// The entry whose gate stands at a place, where that gate is open.
+/// Reads the entry whose gate is at `place`; `None` if that gate is not open.
 fn read_entry<D: Disk>(
     alloc: Global,
     disk: &mut D,
@@ -138,7 +138,7 @@ fn read_entry<D: Disk>(
     Ok(Some(payload))
 }
 
-/// The payloads of a file that begins with an open seal, and the place of its last gate.
+/// Reads the payloads that follow the seal of a file of `size` bytes, and the place of its last gate.
 pub(crate) fn read_entries<D: Disk>(
     alloc: Global,
     disk: &mut D,

@@ -1,4 +1,4 @@
-// The refusals of a journal: why it was not made or opened, or why a payload was not added.
+// The errors of a journal: why it was not made or opened, or why a payload was not added.
 ghost use Rattle.std.specs.Prelude.{◌≡◌};
 ghost use Rattle.esm_journal.specs.declared.error.OpenError.TheVariants as open_error;
 ghost use Rattle.esm_journal.specs.declared.error.AppendError.TheVariants as append_error;
@@ -11,9 +11,9 @@ use std::alloc::{AllocError, AllocFailed};
 /// Why a file was not made into a fresh journal.
 #[derive(Clone, Copy, Debug, PartialEq, Eq)]
 pub enum InitError {
-    /// The disk is not empty; it has so many bytes.
+    /// The disk is not empty: it has this many bytes.
     NotEmpty(u64),
-    /// The disk's count of faults rose.
+    /// A call of the disk failed: its count of faults rose.
     DiskFault,
     OutOfMemory,
 }
@@ -25,7 +25,7 @@ pub enum OpenError {
     NotAJournal([u8; 8]),
     /// The place of the damage, in bytes from the start of the file.
     Damaged(u64),
-    /// The disk's count of faults rose.
+    /// A call of the disk failed: its count of faults rose.
     DiskFault,
     OutOfMemory,
 }
@@ -33,14 +33,14 @@ pub enum OpenError {
 /// Why a payload was not added.
 #[derive(Clone, Copy, Debug, PartialEq, Eq)]
 pub enum AppendError {
-    /// The payload has so many bytes, which is above the greatest length. Nothing has changed.
+    /// The payload has this many bytes, more than `MAX_PAYLOAD`. Nothing has changed.
     TooLong(u64),
-    /// The disk's count of faults rose. The journal takes no further payload until it is opened again, and may then
-    /// hold this one or not.
+    /// A call of the disk failed: its count of faults rose. The journal takes no further payload until it is opened again,
+    /// and may then hold this one or not.
     DiskFault,
     /// Nothing has changed.
     OutOfMemory,
-    /// An earlier call answered `DiskFault`.
+    /// An earlier call returned `DiskFault`. Nothing has changed.
     Down,
 }
 

@@ -9,8 +9,8 @@ pub(crate) const PAIR: [u8; 8] = *b"ESMJ0002";
 /// The place of the seal, behind the header and the epoch.
 pub(crate) const SEAL: u64 = 16;
 
-/// The place of the first gate: the entries stand from here on.
+/// The place of the first gate, where the entries begin.
 pub(crate) const FIRST_GATE: u64 = 17;
 
-/// The bytes of a file without entries, its last gate included.
+/// The number of bytes of a file without entries, with its last gate.
 pub(crate) const LEAST_SIZE: u64 = 18;

@@ -1,4 +1,4 @@
-// What a file holds.
+// Reads a whole file: its epoch, its payloads and the place of its last gate.
 ghost use Rattle.std.specs.Prelude.{◌≡◌, true, length, IfOk, IfErr, OnOk};
 ghost use Rattle.esm_io.specs.Faults.{IsCount, Rose};
 ghost use Rattle.esm_io.specs.Images.{Only};
@@ -16,7 +16,7 @@ use esm_io::Disk;
 use esm_model::Bytes;
 use std::alloc::Global;
 
-/// The payloads of a file, and the place of its last gate.
+/// The epoch and the payloads of a file, and the place of its last gate.
 #[derive(Drop)]
 pub(crate) struct Found {
     pub(crate) epoch: u64,
@@ -24,7 +24,7 @@ pub(crate) struct Found {
     pub(crate) end: u64,
 }
 
-/// Reads the payloads of a file that begins with the header and has this front.
+/// Reads the payloads of a file that begins with the header. `head` is what was read of its first bytes.
 pub(crate) fn read_rest<D: Disk>(
     alloc: Global,
     disk: &mut D,
@@ -54,7 +54,7 @@ pub(crate) fn read_rest<D: Disk>(
     })
 }
 
-/// Settles a disk and reads the file on it.
+/// Syncs a disk and reads the file on it.
 pub(crate) fn read_file<D: Disk>(
     alloc: Global,
     disk: &mut D,

@@ -1,4 +1,4 @@
-// Fresh files.
+// Makes fresh files on empty disks.
 ghost use Rattle.std.specs.Prelude.{◌≡◌, ◌≢◌, true, length, IfErr, OnOk, OnErr};
 ghost use Rattle.esm_io.specs.Faults.{IsCount, Rose};
 ghost use Rattle.esm_io.specs.Images.{LeavesOnly, Only};
@@ -23,7 +23,7 @@ fn blank_bytes(header: [u8; 8], epoch: u64) -> [u8; 18]
     bytes
 }
 
-/// Makes an empty disk a file that was never sealed.
+/// Makes, on an empty disk, a file that was never sealed.
 pub(crate) fn write_blank<D: Disk>(
     disk: &mut D,
     header: [u8; 8],
@@ -51,7 +51,7 @@ pub(crate) fn write_blank<D: Disk>(
     Ok(())
 }
 
-/// Makes an empty disk a fresh file: its seal is opened once the rest is on the disk.
+/// Makes, on an empty disk, a fresh file. The seal is opened once the rest is on the disk.
 pub(crate) fn write_fresh<D: Disk>(disk: &mut D, header: [u8; 8]) -> Result<(), InitError>
     requires { length header ≡ 8 }
     ensures made { D.honest disk.old ≡ true → OnOk result (D.content disk.new ≡ fresh_file header) }

@@ -1,4 +1,4 @@
-// The first bytes of a file.
+// Reads the first bytes of a file: the header, the epoch and the seal.
 ghost use Rattle.std.specs.Prelude.{◌≡◌, ◌+◌, ◌++◌, ◌<◌, ◌≤◌, true, ℕ, length, slice_index, IfOk, OnErr};
 ghost use Rattle.std.specs.Int.{w64, to_be_bytes, from_be_bytes};
 ghost use Rattle.esm_io.specs.Faults.{Rose};
@@ -10,7 +10,7 @@ ghost use Rattle.esm_journal.specs.Head.{IsHead};
 use crate::through::{read_at, size_of};
 use esm_io::{Disk, Failed};
 
-/// What stands at the front of a file, with 0 for each byte that is missing.
+/// The size of a file and its first fields, with 0 for each byte that is missing.
 #[derive(Drop)]
 pub(crate) struct Head {
     pub(crate) size: u64,
@@ -36,7 +36,7 @@ fn eight_of(bytes: &[u8], place: usize) -> [u8; 8]
     ]
 }
 
-/// The number that the eight bytes behind the first eight write.
+/// The big-endian number in the eight bytes behind the header.
 fn epoch_of(bytes: &[u8]) -> u64
     requires { 16 ≤ length bytes.now }
     ensures number { result ≡ from_be_bytes w64 (eight_at bytes.now 8) }
@@ -47,7 +47,7 @@ fn epoch_of(bytes: &[u8]) -> u64
     ])
 }
 
-/// The 16 bytes before the seal.
+/// The 16 bytes before the seal: the header and the epoch.
 pub(crate) fn head_bytes(header: [u8; 8], epoch: u64) -> [u8; 16]
     requires { length header ≡ 8 }
     ensures { result ≡ header ++ to_be_bytes w64 epoch }
@@ -71,7 +71,7 @@ fn first_bytes<D: Disk>(disk: &mut D, size: u64) -> Result<[u8; 17], Failed>
     Ok(bytes)
 }
 
-/// Reads the front of a file.
+/// Reads the size and the first fields of a file.
 pub(crate) fn read_head<D: Disk>(disk: &mut D) -> Result<Head, Failed>
     ensures head { D.honest disk.old ≡ true → IfOk result (IsHead (D.content disk.old)) }
     ensures only_read { IsOnlyRead (meaning D.Disk) disk.old disk.new }

@@ -20,8 +20,8 @@ use std::alloc::Global;
 use std::collections::VecDeque;
 use std::marker::Model;
 
-/// One file of payloads, with the header `ESMJ0001`. A payload that was added is in every image of the disk; one that
-/// was not is in none.
+/// A journal in one file, with the header `ESMJ0001`. Over an honest disk, a payload that was added is in every image of the
+/// disk, so a crash leaves it. After `DiskFault` an image may also have the payload of the call that failed.
 #[derive(Drop)]
 pub struct Journal<D: Disk> {
     log: Log<D>,
@@ -46,16 +46,16 @@ impl<D: Disk> Model for Journal<D> {
 }
 
 impl<D: Disk> Journal<D> {
-    /// Makes an empty disk a journal without payloads, with all of it on the disk. `NotEmpty` where the disk has bytes,
-    /// with their number. To a disk that has bytes nothing is written, whatever the answer; after another error than
-    /// `DiskFault` nothing has changed. No crash since the call began leaves a payload that was not there.
+    /// Makes a journal without payloads on an empty disk, and syncs it. Returns `NotEmpty`, with the number of bytes, if the
+    /// disk has any; a disk that has bytes is never written. Returns `DiskFault` if a call of the disk failed; after any
+    /// other error the disk was only read. A crash at any moment of the call leaves no payload that was not there before.
     pub fn init(alloc: Global, disk: D) -> Result<Journal<D>, Refused<InitError, D>>
         // What Ok leaves.
         ensures fresh { IfOk result (λ journal. (journal.payloads ≡ []) × (journal.down ≡ false) × (journal.room ≡ [])) }
         ensures bytes { D.honest disk ≡ true → IfOk result (λ journal. D.content journal.disk ≡ fresh_file (header_of 1)) }
         ensures kept { D.honest disk ≡ true → IfOk result (λ journal. Keeps (meaning D.Disk) (header_of 1) [] journal.disk) }
         ensures was_empty { D.honest disk ≡ true → OnOk result (length (D.content disk) ≡ 0) }
-        // When each error comes, and what it leaves.
+        // When each error is returned, and what it leaves.
         ensures refused { IfErr result (λ refused. NotMadeFor
             (λ size. D.honest disk ≡ true → (size ≡ length (D.content disk)) × (size ≢ 0) × (D.content refused.back ≡ D.content disk))
             (Rose (D.faults disk) (D.faults refused.back)) refused.why) }
@@ -89,14 +89,14 @@ impl<D: Disk> Journal<D> {
         }
     }
 
-    /// Makes an empty disk the fresh spare of a pair: the header `ESMJ0002`, epoch 0, a closed seal and a closed gate,
-    /// all of it on the disk. The refusals are those of `init`.
+    /// Makes the fresh spare file of a pair on an empty disk, and syncs it: the header `ESMJ0002`, epoch 0, a closed seal
+    /// and a closed gate. Returns the errors of `init`, each when `init` does.
     pub fn blank(disk: D) -> Result<D, Refused<InitError, D>>
         // What Ok leaves.
         ensures bytes { D.honest disk ≡ true → IfOk result (λ made. D.content made ≡ blank_file (header_of 2) 0) }
         ensures durable { D.honest disk ≡ true → IfOk result (λ made. Only (D.content made) (D.image made)) }
         ensures was_empty { D.honest disk ≡ true → OnOk result (length (D.content disk) ≡ 0) }
-        // When each error comes, and what it leaves.
+        // When each error is returned, and what it leaves.
         ensures refused { IfErr result (λ refused. NotMadeFor
             (λ size. D.honest disk ≡ true → (size ≡ length (D.content disk)) × (size ≢ 0) × (D.content refused.back ≡ D.content disk))
             (Rose (D.faults disk) (D.faults refused.back)) refused.why) }
@@ -119,16 +119,18 @@ impl<D: Disk> Journal<D> {
         }
     }
 
-    /// Opens a file: syncs the disk and reads the file, entry by entry. `NotAJournal` where it does not begin with the
-    /// header, with its first eight bytes; `Damaged` where it does and is damaged, with the place; nothing is written.
+    /// Opens a file: syncs the disk, then reads the file entry by entry; nothing is written. Returns `NotAJournal`, with the
+    /// first eight bytes, if the file does not begin with the header, and `Damaged`, with the place in bytes from the start,
+    /// if it does and is damaged. Returns `DiskFault` if a call of the disk failed, and `OutOfMemory` if an allocation
+    /// failed.
     pub fn open(alloc: Global, disk: D) -> Result<Journal<D>, Refused<OpenError, D>>
-        // What Ok tells: the payloads, and that nothing was written.
+        // What Ok means: these are the payloads, and nothing was written.
         ensures opened { D.honest disk ≡ true → IfOk result (λ journal. OpensTo (header_of 1) journal.payloads (D.content disk)) }
         ensures fresh { IfOk result (λ journal. (journal.down ≡ false) × (journal.room ≡ [])) }
         ensures only_read { IfOk result (λ journal. IsOnlyRead (meaning D.Disk) disk journal.disk) }
         // What a crash leaves after Ok.
         ensures kept { D.honest disk ≡ true → IfOk result (λ journal. Keeps (meaning D.Disk) (header_of 1) journal.payloads journal.disk) }
-        // When each error comes, and that nothing was written.
+        // When each error is returned; nothing was written.
         ensures refused { IfErr result (λ refused. RefusedFor
             (λ first. D.honest disk ≡ true → (opened (header_of 1) (D.content disk) ≡ Foreign) × (first ≡ eight_at (D.content disk) 0))
             (λ place. D.honest disk ≡ true → opened (header_of 1) (D.content disk) ≡ Damaged place)
@@ -161,8 +163,9 @@ impl<D: Disk> Journal<D> {
         &self.log.payloads
     }
 
-    /// Makes room for the next payloads: after its Ok the next calls of `append`, one for each length in this order and
-    /// of payloads that are not longer, do not answer `OutOfMemory`.
+    /// Reserves memory for the next payloads of these lengths, in bytes, in place of what was reserved before. After Ok the
+    /// next calls of `append`, one for each length and in this order, do not return `OutOfMemory` if their payloads are no
+    /// longer. Returns `OutOfMemory` if an allocation failed; then nothing has changed.
     pub fn reserve(&mut self, alloc: Global, lengths: &[u32]) -> Result<(), OutOfMemory>
         ensures room { OnOk result (self.new.room ≡ lengths.now) }
         ensures kept { OnErr result (self.new ≡ self.old) }
@@ -173,9 +176,10 @@ impl<D: Disk> Journal<D> {
         self.log.reserve(alloc, lengths)
     }
 
-    /// Adds a payload, in four calls of the disk. A crash at any moment leaves a file that opens to the payloads from
-    /// before the call, with the new one or without; after Ok every crash leaves the new one. After `DiskFault` the
-    /// journal is down until it is opened again; after the other errors nothing has changed.
+    /// Adds a payload, in four calls of the disk: two writes, each with its sync. A crash during the call leaves a file that
+    /// opens to the earlier payloads, with the new one or without; after Ok every crash leaves the new one. Returns
+    /// `TooLong` if the payload is longer than `MAX_PAYLOAD` bytes, and `Down` if an earlier call returned `DiskFault`.
+    /// After `DiskFault` the journal is down until it is opened again; after the other errors nothing has changed.
     pub fn append(&mut self, alloc: Global, payload: &[u8]) -> Result<(), AppendError>
         ensures told { IsAppended (meaning D.Disk) payload.now self.old self.new result }
         // What a crash leaves: since the call began, and once it has returned.
@@ -187,7 +191,7 @@ impl<D: Disk> Journal<D> {
         self.log.append(alloc, payload)
     }
 
-    /// The disk, as the calls on it left it.
+    /// Returns the disk as the calls left it.
     pub fn into_disk(self) -> D
         ensures { result ≡ self.disk }
     {

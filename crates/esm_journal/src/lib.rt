@@ -1,6 +1,6 @@
-//! The files that outlast a stop: one journal, or a pair of files of which one is in use. A payload counts once its
-//! gate byte is open, and the gate is opened only once the payload is on the disk, so a crash at any moment leaves
-//! whole payloads alone.
+//! Files of payloads that survive a crash: a journal in one file, or in a pair of files of which one is in use. A payload
+//! counts once its gate byte is open. The gate is opened only once the payload is on the disk, so a crash at any moment
+//! leaves only whole payloads.
 #![tactic(auto)]
 
 mod ahead;

@@ -9,7 +9,7 @@ use esm_model::{Bytes, MAX_PAYLOAD};
 use std::alloc::{AllocError, Global};
 use std::collections::VecDeque;
 
-/// The length of the first payload that is too long.
+/// The length in bytes of the first payload longer than `MAX_PAYLOAD`.
 pub(crate) fn first_too_long(payloads: &[Bytes]) -> Option<u64>
     ensures { result ≡ first_too_long payloads.now }
 {
@@ -22,7 +22,7 @@ pub(crate) fn first_too_long(payloads: &[Bytes]) -> Option<u64>
     None
 }
 
-/// The entries of payloads behind open gates, and a last gate that is not open.
+/// The bytes of a list of payloads: their entries behind open gates, and a closed last gate.
 pub(crate) fn list_bytes(alloc: Global, payloads: &[Bytes]) -> Result<Vec<u8>, AllocError>
     requires { AreShort payloads.now }
     ensures { IfOk result (λ list. list.items ≡ entries payloads.now ++ 0 ∷ []) }
@@ -38,7 +38,7 @@ pub(crate) fn list_bytes(alloc: Global, payloads: &[Bytes]) -> Result<Vec<u8>, A
     Ok(list)
 }
 
-/// Copies of payloads, with places for so many more.
+/// Copies payloads, with capacity for `more` further ones.
 pub(crate) fn copies(
     alloc: Global,
     payloads: &[Bytes],
@@ -55,15 +55,15 @@ pub(crate) fn copies(
     Ok(copies)
 }
 
-/// What a list needs in memory: its bytes behind the seal, and its payloads.
+/// A list that is ready to be written: its bytes behind the seal, and its payloads.
 #[derive(Drop)]
 pub(crate) struct Prepared {
     pub(crate) bytes: Vec<u8>,
     pub(crate) payloads: Vec<Bytes>,
 }
 
-/// Makes a list ready to be written, with places for the payloads for which these buffers were made. A file that grows
-/// to 2^64 bytes or more with them counts as want of memory.
+/// Prepares a list to be written, with capacity for one more payload for each spare buffer. Fails also if the file would
+/// grow to 2^64 bytes or more with these.
 pub(crate) fn prepare(
     alloc: Global,
     payloads: &[Bytes],
@@ -85,7 +85,7 @@ pub(crate) fn prepare(
     Ok(Prepared { bytes, payloads })
 }
 
-/// The bytes of all entries that fit into spare buffers.
+/// The bytes of all entries that fit into the spare buffers: the sum of their capacities.
 pub(crate) fn room_bytes(spares: &VecDeque<Vec<u8>>) -> u64
     requires { total_room spares.now.items < 2 ^ 64 }
     ensures { result ≡ total_room spares.now.items }

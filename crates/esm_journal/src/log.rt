@@ -1,4 +1,4 @@
-// A file that is open: what is kept of it in memory, and its disk.
+// An open file: what is kept of it in memory, and its disk.
 ghost use Rattle.std.specs.Prelude.{◌≡◌, ◌+◌, ◌<◌, ◌≤◌, ◌^◌, ◌⊎◌, [], ◌∷◌, ◌++◌, true, false, length, vec_len, vec_capacity, OnOk, OnErr};
 ghost use Rattle.esm_io.specs.Faults.{IsCount, Rose, MAX_FAULTS};
 ghost use Rattle.esm_io.specs.Images.{overwritten, Torn, Only, LeavesOnly};
@@ -23,14 +23,14 @@ pub(crate) struct Log<D: Disk> {
     pub(crate) payloads: Vec<Bytes>,
     /// The place of the last gate.
     pub(crate) end: u64,
-    /// Empty buffers for the entries of payloads to come.
+    /// Empty buffers for the entries of the next payloads.
     pub(crate) spares: VecDeque<Vec<u8>>,
-    /// A call of the disk failed.
+    /// Whether a call of the disk failed.
     pub(crate) down: bool,
 }
 
-/// Writes an entry and a next gate behind a gate, syncs, and only then opens that gate, and syncs. A crash at any moment
-/// leaves other bytes behind the gate alone, or the entry whole and another gate.
+/// Writes an entry and the next gate behind the gate at `gate`, and syncs; only then opens that gate, and syncs again. A
+/// crash during the call leaves only bytes behind the gate changed, or the entry whole and the gate open or not.
 fn add_entry<D: Disk>(disk: &mut D, gate: u64, frame: &[u8]) -> Result<(), Failed>
     requires synced { D.honest disk.old ≡ true → Only (D.content disk.old) (D.image disk.old) }
     requires within { D.honest disk.old ≡ true → gate < length (D.content disk.old) }
@@ -52,7 +52,7 @@ impl<D: Disk> Log<D> {
     ghost use Rattle.esm_journal.specs.Append.{IsAppended};
     ghost use Rattle.esm_journal.specs.Log.{IsLog, IsUnchanged, IsEither, state_of};
 
-    /// Makes room for the next payloads of these lengths.
+    /// Reserves memory for the next payloads of these lengths, in bytes.
     pub(crate) fn reserve(&mut self, alloc: Global, lengths: &[u32]) -> Result<(), OutOfMemory>
         requires { IsLog (meaning D.Disk) self.old }
         ensures log { IsLog (meaning D.Disk) self.new }
@@ -70,7 +70,7 @@ impl<D: Disk> Log<D> {
         Ok(())
     }
 
-    /// Adds a payload behind those that are there. Four device calls.
+    /// Adds a payload after the others, in four calls of the disk.
     pub(crate) fn append(&mut self, alloc: Global, payload: &[u8]) -> Result<(), AppendError>
         requires { IsLog (meaning D.Disk) self.old }
         ensures log { IsLog (meaning D.Disk) self.new }
@@ -102,7 +102,7 @@ impl<D: Disk> Log<D> {
         Ok(())
     }
 
-    /// Goes over to the next file, on another disk, which the disk so far takes the place of.
+    /// Switches to the file of the next epoch on another disk. Afterwards `disk` is the one that was in use.
     pub(crate) fn move_over(&mut self, disk: &mut D, payloads: Vec<Bytes>, end: u64)
         requires log { IsLog (meaning D.Disk) self.old }
         requires up { self.old.down ≡ false }

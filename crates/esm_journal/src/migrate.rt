@@ -1,4 +1,4 @@
-// From a pair of version 1 to one of version 2.
+// Migrates a pair from version 1 to version 2.
 ghost use Rattle.std.specs.Prelude.{◌≡◌, ◌+◌, ◌<◌, ◌≤◌, [], ◌∷◌, ◌++◌, true, false, min, length, IfOk, IfErr};
 ghost use Rattle.esm_io.specs.Faults.{MAX_FAULTS};
 ghost use Rattle.esm_io.specs.Images.{Only};
@@ -20,11 +20,11 @@ use esm_model::Refused;
 use std::alloc::Global;
 use std::collections::VecDeque;
 
-/// A pair that is of version 2.
+/// A pair of version 2, as `Pair::migrate` returns it.
 #[derive(Drop)]
 pub struct Migrated<D: Disk> {
     pub pair: Pair<D>,
-    /// The number of its payloads, at most 4,294,967,295.
+    /// The number of its payloads, or 4,294,967,295 if it has more.
     pub count: u32,
     /// The version in which it was found, 1 or 2.
     pub was: u8,
@@ -43,7 +43,7 @@ impl<D: Disk> Migrated<D> {
 
 impl<D: Disk> Pair<D> {
     /// Writes the list of a pair of version 1 to the disk that is not in use, with the header of version 2 and the next
-    /// epoch, and goes over to it.
+    /// epoch, and then uses that disk.
     fn write_anew(
         alloc: Global,
         found: Found,
@@ -133,10 +133,11 @@ impl<D: Disk> Pair<D> {
         }
     }
 
-    /// Opens a pair of version 2 as it is, and writes nothing. A pair of version 1 it writes anew: the same list, on the
-    /// disk that was not in use, with the header `ESMJ0002` and the next epoch. The refusals are those of `open`, by the
-    /// header of version 1 where neither disk is sealed as version 2, and `Damaged(8)` where there is no next epoch. A crash
-    /// at any moment leaves a pair that opens as version 1 to its list or as version 2 to the same.
+    /// Opens a pair of version 2 as it is, and writes nothing. Writes a pair of version 1 anew: the same list, on the disk
+    /// that was not in use, with the header `ESMJ0002` and the next epoch. Returns the errors of `open`, by the header of
+    /// version 1 if neither disk is sealed as version 2, and `Damaged(8)` if a pair of version 1 has no next epoch. If each
+    /// disk of version 1 had one image before, as a synced one has, a crash at any moment leaves a pair that opens as
+    /// version 1 to its list or as version 2 to the same.
     pub fn migrate(
         alloc: Global,
         journal: D,

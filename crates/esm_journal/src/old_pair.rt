@@ -1,4 +1,4 @@
-// A pair of version 1, whose list is written anew as one of version 2.
+// Reads a pair of version 1, whose list is then written anew as one of version 2.
 ghost use Rattle.std.specs.Prelude.{◌≡◌, ◌⊎◌, ◌+◌, ◌<◌, ◌==◌, [], ◌∷◌, ◌++◌, true, IfOk, IfErr, OnErr};
 ghost use Rattle.esm_io.specs.Faults.{Rose};
 ghost use Rattle.esm_io.specs.Meanings.{disk as meaning};
@@ -16,7 +16,7 @@ use crate::pair_reading::{Taken, has_seal, read_pair};
 use esm_io::{Disk, Failed};
 use std::alloc::Global;
 
-/// One of two disks is sealed with the header of version 2.
+/// Whether one of two disks is sealed with the header of version 2.
 pub(crate) fn has_version_2<D: Disk>(first: &mut D, second: &mut D) -> Result<bool, Failed>
     ensures version { D.honest first.old ≡ true → D.honest second.old ≡ true →
         IfOk result (λ found. found ≡ is_version_2 (D.content first.old) (D.content second.old)) }
@@ -36,7 +36,7 @@ pub(crate) struct OldPair {
     pub(crate) bytes: Vec<u8>,
 }
 
-/// Reads a pair of version 1 and makes its list ready to be written with the next epoch.
+/// Reads a pair of version 1 and prepares its list to be written under the next epoch. `Damaged(8)` if there is none.
 pub(crate) fn read_old_pair<D: Disk>(
     alloc: Global,
     first: &mut D,

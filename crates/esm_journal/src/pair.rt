@@ -33,9 +33,9 @@ use std::marker::Model;
 pub struct Pair<D: Disk> {
     pub(crate) log: Log<D>,
     pub(crate) spare: D,
-    /// The seal byte of the spare disk is 1.
+    /// Whether the seal byte of the spare disk is 1.
     pub(crate) spare_sealed: bool,
-    /// The disk in use is the second that was handed in.
+    /// Whether the disk in use is the second that was handed in.
     pub(crate) swapped: bool,
 }
 
@@ -67,11 +67,12 @@ impl<D: Disk> Model for Pair<D> {
 }
 
 impl<D: Disk> Pair<D> {
-    /// Opens a pair: syncs both disks and reads the one in use, entry by entry. `NotAJournal` where neither disk is
-    /// taken, with the first eight bytes of the first; `Damaged` where the one that is taken is damaged, with the place,
-    /// or where it is not and the other has fewer than 18 bytes, with their number. Nothing is written.
+    /// Opens a pair: syncs both disks, then reads the file in use entry by entry; nothing is written. Returns `NotAJournal`,
+    /// with the first eight bytes of the first disk, if neither is taken. Returns `Damaged` if the one that is taken is
+    /// damaged, with the place in bytes from its start, or if it is not and the other has fewer than 18 bytes, with their
+    /// number. Returns `DiskFault` if a call of a disk failed, and `OutOfMemory` if an allocation failed.
     pub fn open(alloc: Global, journal: D, spare: D) -> Result<Pair<D>, Refused<OpenError, (D, D)>>
-        // What Ok tells: the payloads, the epoch, and that nothing was written.
+        // What Ok means: these are the payloads and the epoch, and nothing was written.
         ensures opened { D.honest journal ≡ true → D.honest spare ≡ true →
             IfOk result (λ pair. pair_opened (header_of 2) (D.content journal) (D.content spare) ≡ Holding pair.epoch pair.payloads) }
         ensures fresh { IfOk result (λ pair. (pair.down ≡ false) × (pair.room ≡ [])) }
@@ -80,7 +81,7 @@ impl<D: Disk> Pair<D> {
         // What a crash leaves after Ok.
         ensures kept { D.honest journal ≡ true → D.honest spare ≡ true →
             IfOk result (λ pair. PairKeeps (meaning D.Disk) (header_of 2) pair.epoch pair.payloads pair.used pair.spare) }
-        // When each error comes, and that nothing was written.
+        // When each error is returned; nothing was written.
         ensures refused { IfErr result (λ refused.
             PairRefusedFor (meaning D.Disk) (pair_opened (header_of 2)) journal spare refused.back.0 refused.back.1 refused.why) }
         ensures first_back { IfErr result (λ refused. IsOnlyRead (meaning D.Disk) journal refused.back.0) }
@@ -138,17 +139,17 @@ impl<D: Disk> Pair<D> {
         }
     }
 
-    /// Makes an empty disk a fresh `journal.esm` without payloads, with all of it on the disk. Beside a fresh
-    /// `spare.esm` it opens to no payload, each of the two in whichever place. `NotEmpty` where the disk has bytes, with
-    /// their number. To a disk that has bytes nothing is written, whatever the answer; after another error than
-    /// `DiskFault` nothing has changed. No crash since the call began leaves a payload that was not there.
+    /// Makes a fresh `journal.esm` without payloads on an empty disk, and syncs it. With a fresh `spare.esm` beside it, in
+    /// either order, it opens to no payload. Returns `NotEmpty`, with the number of bytes, if the disk has any; a disk that
+    /// has bytes is never written. Returns `DiskFault` if a call of the disk failed; after any other error the disk was only
+    /// read. A crash at any moment of the call leaves no payload that was not there before.
     pub fn first(disk: D) -> Result<D, Refused<InitError, D>>
         // What Ok leaves.
         ensures bytes { D.honest disk ≡ true → IfOk result (λ made. D.content made ≡ fresh_file (header_of 2)) }
         ensures opens { D.honest disk ≡ true → IfOk result (λ made. PairOpensTo (header_of 2) 1 [] (D.content made) (blank_file (header_of 2) 0)) }
         ensures durable { D.honest disk ≡ true → IfOk result (λ made. Only (D.content made) (D.image made)) }
         ensures was_empty { D.honest disk ≡ true → OnOk result (length (D.content disk) ≡ 0) }
-        // When each error comes, and what it leaves.
+        // When each error is returned, and what it leaves.
         ensures refused { IfErr result (λ refused. NotMadeFor
             (λ size. D.honest disk ≡ true → (size ≡ length (D.content disk)) × (size ≢ 0) × (D.content refused.back ≡ D.content disk))
             (Rose (D.faults disk) (D.faults refused.back)) refused.why) }
@@ -171,8 +172,8 @@ impl<D: Disk> Pair<D> {
         }
     }
 
-    /// The payloads, in order. While the pair is down they are those from before the call that failed; a crash leaves a
-    /// pair that opens to these, or to what that call was to leave.
+    /// The payloads, in order. While the pair is down they are those from before the call that failed; a crash leaves a pair
+    /// that opens to these, or to what that call would have left.
     pub fn payloads(&self) -> &[Bytes]
         ensures payloads { result.now ≡ self.now.payloads }
         ensures kept { PairKeepsWhileUp (meaning D.Disk) self.now }
@@ -188,8 +189,9 @@ impl<D: Disk> Pair<D> {
         self.log.epoch
     }
 
-    /// Makes room for the next payloads: after its Ok the next calls of `append`, one for each length in this order and
-    /// of payloads that are not longer, do not answer `OutOfMemory`.
+    /// Reserves memory for the next payloads of these lengths, in bytes, in place of what was reserved before. After Ok the
+    /// next calls of `append`, one for each length and in this order, do not return `OutOfMemory` if their payloads are no
+    /// longer. Returns `OutOfMemory` if an allocation failed; then nothing has changed.
     pub fn reserve(&mut self, alloc: Global, lengths: &[u32]) -> Result<(), OutOfMemory>
         ensures room { OnOk result (self.new ≡ record self.old { room = lengths.now }) }
         ensures kept { OnErr result (self.new ≡ self.old) }
@@ -197,11 +199,12 @@ impl<D: Disk> Pair<D> {
         self.log.reserve(alloc, lengths)
     }
 
-    /// Adds a payload to the file in use, in four calls of its disk. A crash at any moment leaves a pair that opens to
-    /// the payloads from before the call, with the new one or without; after Ok every crash leaves the new one. After
-    /// `DiskFault` the pair is down until it is opened again; after the other errors nothing has changed.
+    /// Adds a payload to the file in use, in four calls of its disk: two writes, each with its sync. A crash during the call
+    /// leaves a pair that opens to the earlier payloads, with the new one or without; after Ok every crash leaves the new
+    /// one. Returns `TooLong` if the payload is longer than `MAX_PAYLOAD` bytes, and `Down` if an earlier call returned
+    /// `DiskFault`. After `DiskFault` the pair is down until it is opened again; after the other errors nothing has changed.
     pub fn append(&mut self, alloc: Global, payload: &[u8]) -> Result<(), AppendError>
-        // Of the file in use, and of the rest, whatever the answer.
+        // What each answer says of the file in use; the rest stays, whatever the answer.
         ensures told { IsAppended (meaning D.Disk) payload.now (file_in_use self.old) (file_in_use self.new) result }
         ensures spare { self.new.spare ≡ self.old.spare }
         ensures epoch { self.new.epoch ≡ self.old.epoch }
@@ -218,9 +221,11 @@ impl<D: Disk> Pair<D> {
         self.log.append(alloc, payload)
     }
 
-    /// Writes a new list to the disk that is not in use and goes over to it. A crash at any moment leaves a pair that
-    /// opens to the payloads from before the call or to the new list; after Ok every crash leaves the new list. After
-    /// `DiskFault` the pair is down until it is opened again; after the other errors nothing has changed.
+    /// Replaces the payloads by a new list: writes the list to the disk that is not in use, under the next epoch, and then
+    /// uses that disk. A crash during the call leaves a pair that opens to the earlier payloads or to the new list; after Ok
+    /// every crash leaves the new list. Returns `TooLong`, with its length in bytes, for the first payload longer than
+    /// `MAX_PAYLOAD`, and `Down` if an earlier call returned `DiskFault`. After `DiskFault` the pair is down until it is
+    /// opened again; after the other errors nothing has changed.
     pub fn rewrite(&mut self, alloc: Global, payloads: &[Bytes]) -> Result<(), AppendError>
         requires { self.old.epoch < 18446744073709551615 }
         ensures told { IsRewritten (meaning D.Disk) payloads.now self.old self.new result }
@@ -256,7 +261,7 @@ impl<D: Disk> Pair<D> {
         Ok(())
     }
 
-    /// The disks in the order in which they were handed in, as the calls on them left them.
+    /// Returns the disks as the calls left them, in the order in which they were handed in.
     pub fn into_disks(self) -> (D, D)
         ensures first { result.0 ≡ first_disk self }
         ensures second { result.1 ≡ second_disk self }

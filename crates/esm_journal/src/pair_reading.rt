@@ -1,4 +1,4 @@
-// Which of two files is in use, and what it holds.
+// Finds which of two files is in use, and reads it.
 ghost use Rattle.std.specs.Prelude.{◌≡◌, ◌≤◌, ◌==◌, ◌&&◌, true, false, ℕ, List, length, nat_eq, IfOk, IfErr, OnOk};
 ghost use Rattle.std.specs.Cmp.Lexicographic.{pointwise};
 ghost use Rattle.esm_io.specs.Faults.{Rose, MAX_FAULTS};
@@ -26,7 +26,7 @@ pub(crate) struct Taken {
     pub(crate) spare_sealed: bool,
 }
 
-/// The file begins with the header and its seal is open.
+/// Whether the file begins with the header and its seal is open.
 pub(crate) fn has_seal(head: &Head, header: [u8; 8]) -> bool
     ensures sealed { result ≡ (pointwise nat_eq head.now.first header && (head.now.seal == 1)) }
     ensures headed { result ≡ true → head.now.first ≡ header }
@@ -37,7 +37,7 @@ pub(crate) fn has_seal(head: &Head, header: [u8; 8]) -> bool
     head.seal == 1
 }
 
-/// The first of two files is taken.
+/// Whether the first of two files is taken: it is sealed, and the other is not or has a lower epoch.
 fn takes(head: &Head, other: &Head, header: [u8; 8]) -> bool
     ensures taken { (bytes beside : List ℕ) → IsHead bytes head.now → IsHead beside other.now → result ≡ is_taken header bytes beside }
     ensures headed { result ≡ true → head.now.first ≡ header }
@@ -48,7 +48,7 @@ fn takes(head: &Head, other: &Head, header: [u8; 8]) -> bool
     !has_seal(other, header) || other.epoch < head.epoch
 }
 
-/// Reads the file that is taken, beside another of so many bytes.
+/// Reads the file that is taken, beside another of `size` bytes, which are too few below `LEAST_SIZE`.
 fn read_taken<D: Disk>(
     alloc: Global,
     disk: &mut D,
@@ -74,7 +74,7 @@ fn read_taken<D: Disk>(
     Ok(found)
 }
 
-/// Settles both disks and reads the file in use.
+/// Syncs both disks, then finds and reads the file in use.
 pub(crate) fn read_pair<D: Disk>(
     alloc: Global,
     first: &mut D,

@@ -1,4 +1,4 @@
-// A new list over the file of a pair that is not in use, in three steps of which each ends with its sync.
+// Writes a new list over the file of a pair that is not in use, in three steps, each of which ends with a sync.
 ghost use Rattle.std.specs.Prelude.{◌≡◌, ◌⊎◌, ◌+◌, ◌<◌, ◌≤◌, ◌==◌, ℕ, List, [], ◌∷◌, ◌++◌, true, length, drop, slice_index, OnOk, OnErr};
 ghost use Rattle.std.specs.Int.{w64, to_be_bytes};
 ghost use Rattle.esm_io.specs.Faults.{IsCount, Rose, MAX_FAULTS};
@@ -13,7 +13,7 @@ use crate::head::head_bytes;
 use crate::through::write_through;
 use esm_io::{Disk, Failed};
 
-/// Closes the seal where it is open. A seal that is not open is not written, since a crash could then leave it open.
+/// Closes the seal if it is open. A seal that is not open is not written, since a crash could then leave it open.
 fn close_seal<D: Disk>(disk: &mut D, sealed: bool) -> Result<(), Failed>
     requires seal { D.honest disk.old ≡ true → sealed ≡ (slice_index (D.content disk.old) 16 == 1) }
     requires long { D.honest disk.old ≡ true → 18 ≤ length (D.content disk.old) }
@@ -71,8 +71,8 @@ fn write_list<D: Disk>(disk: &mut D, header: [u8; 8], epoch: u64, list: &[u8]) -
     Ok(())
 }
 
-/// Replaces a file that is not in use by one with these entries and a closed gate. A crash at any moment leaves a file
-/// that is not taken, or the new one; after Ok it leaves the new one.
+/// Replaces a file that is not in use by one with `list`, which is the entries and a closed gate. A crash during the call
+/// leaves a file that is not taken, or the new one; after Ok every crash leaves the new one.
 pub(crate) fn replace_file<D: Disk>(
     disk: &mut D,
     sealed: bool,

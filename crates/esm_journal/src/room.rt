@@ -1,4 +1,4 @@
-// Buffers for the entries of payloads to come, so that adding them takes no memory.
+// Buffers for the entries of the next payloads, so that adding these takes no memory.
 ghost use Rattle.std.specs.Prelude.{◌≡◌, ◌+◌, ◌-◌, ◌<◌, ◌≤◌, ◌^◌, ◌∷◌, ◌++◌};
 ghost use Rattle.std.specs.Prelude.{ℕ, [], length, take, drop, IfOk, IfSome, IfNone, OnOk, OnErr, vec_len, vec_capacity};
 ghost use Rattle.esm_journal.specs.File.{entry};
@@ -8,7 +8,7 @@ use esm_model::MAX_PAYLOAD;
 use std::alloc::{AllocError, Global};
 use std::collections::VecDeque;
 
-/// Puts the bytes of an entry behind its gate, and a next gate that is not open, into an empty buffer.
+/// Fills an empty buffer with an entry's bytes behind its gate, and a next gate that is closed.
 fn filled(frame: Vec<u8>, payload: &[u8]) -> Result<Vec<u8>, AllocError>
     requires empty { vec_len frame ≡ 0 }
     requires short { length payload.now ≤ MAX_PAYLOAD }
@@ -22,7 +22,7 @@ fn filled(frame: Vec<u8>, payload: &[u8]) -> Result<Vec<u8>, AllocError>
     Ok(frame)
 }
 
-/// The first spare buffer, where an entry of so many bytes fits into it.
+/// Takes the first spare buffer, if an entry of `size` bytes fits into it.
 fn take_spare(spares: &mut VecDeque<Vec<u8>>, size: usize) -> Option<Vec<u8>>
     ensures taken { IfSome result (λ spare. spares.old.items ≡ spare ∷ spares.new.items) }
     ensures fits { IfSome result (λ spare. size ≤ vec_capacity spare) }
@@ -36,8 +36,8 @@ fn take_spare(spares: &mut VecDeque<Vec<u8>>, size: usize) -> Option<Vec<u8>>
     if fits { spares.pop_front() } else { None }
 }
 
-/// The bytes of a payload's entry behind its gate, and a next gate, in the room that was made for it where there is
-/// enough. A file of 2^64 bytes or more counts as want of memory.
+/// The bytes of a payload's entry behind its gate, and a closed next gate. Uses the first spare buffer if the entry fits
+/// into it; otherwise allocates one and drops the spares. Fails also if the file would have 2^64 bytes or more.
 pub(crate) fn framed(
     alloc: Global,
     spares: &mut VecDeque<Vec<u8>>,
@@ -70,8 +70,8 @@ pub(crate) fn framed(
     }
 }
 
-/// Buffers for the entries of payloads of these lengths, in order, behind so many bytes of a file. A file of 2^64 bytes
-/// or more counts as want of memory.
+/// Allocates a buffer for the entry of a payload of each length, in order. `end` is the number of the file's bytes before
+/// them; fails also if the file would have 2^64 bytes or more.
 pub(crate) fn make_spares(
     alloc: Global,
     end: u64,
@@ -94,7 +94,7 @@ pub(crate) fn make_spares(
     Ok(spares)
 }
 
-/// The payload of an entry behind its gate, with its length before it and a gate after it.
+/// Cuts the payload out of an entry's bytes: drops the length before it and the gate after it.
 pub(crate) fn payload_of(frame: Vec<u8>) -> Vec<u8>
     requires { 5 ≤ vec_len frame }
     ensures { result.items ≡ take (vec_len frame - 5) (drop 4 frame.items) }

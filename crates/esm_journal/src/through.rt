@@ -1,4 +1,4 @@
-// Calls of a disk by twos and ones, with what a crash at any moment leaves.
+// Calls of a disk, one at a time or a write with its sync, and what a crash at any moment leaves.
 ghost use Rattle.std.specs.Prelude.{◌≡◌, ◌+◌, ◌≤◌, true, length, take, drop, IfOk, OnOk, OnErr};
 ghost use Rattle.esm_io.specs.Faults.{IsCount, Rose};
 ghost use Rattle.esm_io.specs.Images.{overwritten, Torn, Only, LeavesOnly};
@@ -7,8 +7,8 @@ ghost use Rattle.esm_journal.specs.Reads.{IsOnlyRead};
 
 use esm_io::{Disk, Failed};
 
-/// Writes over a disk on which all is synced, and past its end, and syncs. A crash at any moment leaves each byte
-/// outside the range; after Ok it leaves what a read gives.
+/// Writes to a disk on which all is synced, also past its end, and syncs. A crash during the call leaves each byte outside
+/// the range as it was; after Ok it leaves what a read returns.
 pub(crate) fn write_through<D: Disk>(disk: &mut D, at: u64, from: &[u8]) -> Result<(), Failed>
     requires synced { D.honest disk.old ≡ true → Only (D.content disk.old) (D.image disk.old) }
     requires within { D.honest disk.old ≡ true → at ≤ length (D.content disk.old) }
@@ -24,7 +24,7 @@ pub(crate) fn write_through<D: Disk>(disk: &mut D, at: u64, from: &[u8]) -> Resu
     Ok(())
 }
 
-/// The number of bytes.
+/// The size of the disk in bytes.
 pub(crate) fn size_of<D: Disk>(disk: &mut D) -> Result<u64, Failed>
     ensures size { D.honest disk.old ≡ true → IfOk result (λ n. n ≡ length (D.content disk.old)) }
     ensures only_read { IsOnlyRead (meaning D.Disk) disk.old disk.new }
@@ -44,7 +44,7 @@ pub(crate) fn read_at<D: Disk>(disk: &mut D, at: u64, into: &mut [u8]) -> Result
     disk.read(at, into)
 }
 
-/// After its Ok what a read gives is the only image.
+/// Syncs the disk: after Ok, what a read returns is the only image.
 pub(crate) fn settle<D: Disk>(disk: &mut D) -> Result<(), Failed>
     ensures durable { D.honest disk.old ≡ true → OnOk result (Only (D.content disk.new) (D.image disk.new)) }
     ensures only_read { IsOnlyRead (meaning D.Disk) disk.old disk.new }

@@ -43,7 +43,7 @@ abbrev pub fate_text_of : Option KeptFate → ℕ → Option (List ℕ)
 fate_text_of None b = None
 fate_text_of (Some kept) b = if fate_byte kept.fate == b then Some kept.text else None
 
--- and of so many tries
+-- the text of tries with this number
 abbrev pub tries_text_of : Option KeptTries → ℕ → Option (List ℕ)
 tries_text_of None b = None
 tries_text_of (Some kept) b = if kept.tries == b then Some kept.text else None

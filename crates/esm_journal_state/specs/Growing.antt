@@ -1,4 +1,4 @@
--- A table of whose fates some are not yet in its map. Only this crate's proofs cite this.
+-- A table some of whose fates are not yet in its map. Only this crate's proofs cite this.
 use Rattle.std.specs.Prelude.{ℕ, ◌≡◌, nat_lt, Bool, true, List, [], ◌∷◌, Option, Some, None}
 use Rattle.std.specs.Ordering.{nat_cmp, eq_by_cmp}
 use Rattle.std.specs.Map.{update_all}
@@ -19,7 +19,7 @@ fates_named shard fate [] texts = []
 fates_named shard fate (place ∷ places) [] = []
 fates_named shard fate (place ∷ places) (text ∷ texts) = ((shard, place), fate_kept fate text) ∷ fates_named shard fate places texts
 
--- the fate of a place, where those of the list came after those of the map
+-- the fate of a place, if those of the list came after those of the map
 abbrev pub fate_with : map.BTreeMap (ℕ × ℕ) KeptFate → List ((ℕ × ℕ) × KeptFate) → ℕ → ℕ → Option KeptFate
 fate_with fates recent n i = update_all (eq_by_cmp pair_cmp) (map.get pair_cmp fates) recent (n, i)
 

@@ -12,13 +12,13 @@ use Rattle.esm_journal_record.specs.declared.said.Said.{Said}
 use Rattle.esm_journal_record.specs.declared.said.Said.TheVariants.{Fates, Closed, Deleted, State, Tried, WindowTried, Replayed}
 use Rattle.esm_journal_record.specs.Parsing.{said_of}
 
--- the text with which the places name i
+-- the text that the places have for place i
 abbrev pub text_named : List ℕ → List (List ℕ) → ℕ → Option (List ℕ)
 text_named [] texts i = None
 text_named (place ∷ places) [] i = None
 text_named (place ∷ places) (text ∷ texts) i = if place == i then Some text else text_named places texts i
 
--- where it is this one, and else none
+-- the value if this is the one, else none
 abbrev pub only_at : {A : Type 0} → Bool → Option A → Option A
 only_at true x = x
 only_at false x = None
@@ -33,7 +33,7 @@ fate_after n i before (Fates shard fate moment state places texts) =
     option_or (only_at (shard == n) (option_map (fate_kept fate) (text_named places texts i))) before
 fate_after n i before _ = before
 
--- the fate of a place of the shard, with its text: of the last payload of kind 1 that names it
+-- the fate of a place of the shard, with its text: from the last payload of kind 1 that names it
 abbrev pub fate_said : List Said → ℕ → ℕ → Option KeptFate
 fate_said [] n i = None
 fate_said (s ∷ h) n i = fate_after n i (fate_said h n i) s
@@ -49,7 +49,7 @@ tries_after n i before (Tried shard moment tries places texts) =
     option_or (only_at (shard == n) (option_map (tries_kept tries) (text_named places texts i))) before
 tries_after n i before _ = before
 
--- the tries of a place without a fate: of the last payload of kind 5 that names it
+-- the tries of a place without a fate: from the last payload of kind 5 that names it
 abbrev pub tries_said : List Said → ℕ → ℕ → Option KeptTries
 tries_said [] n i = None
 tries_said (s ∷ h) n i = tries_after n i (tries_said h n i) s
@@ -66,7 +66,7 @@ state_after n w before (State shard moment state) = option_or (only_at (shard ==
 state_after n w before (Closed shard window moment) = if (shard == n) && (window == w) then None else before
 state_after n w before _ = before
 
--- the state of a window: of the last payload of kind 1 or 4 that names it, and none after it was closed
+-- the state of a window: from the last payload of kind 1 or 4 that names it, and none after it was closed
 abbrev pub state_said : List Said → ℕ → ℕ → Option (List ℕ)
 state_said [] n w = None
 state_said (s ∷ h) n w = state_after n w (state_said h n w) s
@@ -76,7 +76,7 @@ window_tries_after n w before (WindowTried shard window moment tries) = if (shar
 window_tries_after n w before (Closed shard window moment) = if (shard == n) && (window == w) then None else before
 window_tries_after n w before _ = before
 
--- the tries of a window's final call: of the last payload of kind 6 that names it, and none after it was closed
+-- the tries of a window's final call: from the last payload of kind 6 that names it, and none after it was closed
 abbrev pub window_tries_said : List Said → ℕ → ℕ → Option ℕ
 window_tries_said [] n w = None
 window_tries_said (s ∷ h) n w = window_tries_after n w (window_tries_said h n w) s
@@ -96,7 +96,7 @@ abbrev pub deletion_after : ℕ → Option KeptFate → Said → Option KeptFate
 deletion_after i before (Deleted fate moment places texts) = option_or (option_map (fate_kept fate) (text_named places texts i)) before
 deletion_after i before _ = before
 
--- the deletion of a message, with its text: of the last payload of kind 3 that names its place
+-- the deletion of a message, with its text: from the last payload of kind 3 that names its place
 abbrev pub deletion_said : List Said → ℕ → Option KeptFate
 deletion_said [] i = None
 deletion_said (s ∷ h) i = deletion_after i (deletion_said h i) s
@@ -111,7 +111,7 @@ abbrev pub tries_text : Option KeptTries → Option (List ℕ)
 tries_text None = None
 tries_text (Some kept) = Some kept.text
 
--- there was another text
+-- another text was kept
 abbrev pub differs : Option (List ℕ) → List ℕ → Bool
 differs None text = false
 differs (Some kept) text = not (pointwise nat_eq kept text)
@@ -160,7 +160,7 @@ is_no_replay k n i text = not (has_failed (k.fates n i)) || k.replays n i || dif
 abbrev pub is_deleted : Known → ℕ → List ℕ → Bool
 is_deleted k i text = is_some (k.deletions i)
 
--- it is bad for a book to say so, where this is known
+-- a payload that says this is bad for a book, given what is known
 abbrev pub is_bad : Known → Said → Bool
 is_bad k (Fates shard fate moment state places texts) = any_named (is_spent k shard) places texts
 is_bad k (Tried shard moment tries places texts) = any_named (is_spent k shard) places texts
@@ -172,7 +172,7 @@ abbrev pub is_good_said : List Said → Option Said → Bool
 is_good_said h None = false
 is_good_said h (Some said) = not (is_bad (known h) said)
 
--- after the history the payload is one, and is not bad for a book
+-- after the history the bytes are a payload, and it is not bad for a book
 abbrev pub is_good : List Said → List ℕ → Bool
 is_good h payload = is_good_said h (said_of payload)
 
@@ -180,7 +180,7 @@ is_good h payload = is_good_said h (said_of payload)
 abbrev pub history : List (List ℕ) → List Said
 history payloads = filter_map said_of payloads
 
--- each payload is good after those before it; the newest stands first
+-- each payload is good after those before it; the newest is first
 abbrev pub are_good : List (List ℕ) → Bool
 are_good [] = true
 are_good (payload ∷ payloads) = are_good payloads && is_good (history payloads) payload

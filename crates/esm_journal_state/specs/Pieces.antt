@@ -39,11 +39,11 @@ abbrev pub piece_after : List Piece → Entry → List Piece
 piece_after [] e = piece_of e ∷ []
 piece_after (p ∷ ps) e = if has_room p e.0.0 then grown p e ∷ ps else piece_of e ∷ p ∷ ps
 
--- and with more of them
+-- the pieces with more places
 abbrev pub pieces_after : List Piece → List Entry → List Piece
 pieces_after ps [] = ps
 pieces_after ps (e ∷ es) = pieces_after (piece_after ps e) es
 
--- the pieces of places that stand in order
+-- the pieces of places in order
 abbrev pub pieces : List Entry → List Piece
 pieces es = reverse (pieces_after [] es)

@@ -15,7 +15,7 @@ pub record FoundReplay : Type 0 where
   pub shard : ℕ
   pub place : ℕ
 
--- the lists
+-- each list has all that the payloads say of one kind
 pub record SaidLists : Type 0 where
   pub fates : List FoundFate
   pub tries : List FoundTries

@@ -1,4 +1,4 @@
--- What a history comes to, as maps.
+-- What a history says, as maps.
 use Rattle.std.specs.Prelude.{ℕ, ◌≡◌, List}
 use Rattle.std.specs.Ordering.{nat_cmp}
 use Rattle.std.specs.BTreeMap as map

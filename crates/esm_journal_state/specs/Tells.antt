@@ -1,4 +1,4 @@
--- The lists tell what a history says.
+-- The lists have what a history says.
 use Rattle.std.specs.Prelude.{ℕ, ◌≡◌, List, option_map}
 use Rattle.esm_model.specs.declared.setup.FoundFate.{FoundFate}
 use Rattle.esm_model.specs.declared.setup.FoundTries.{FoundTries}
@@ -20,7 +20,7 @@ tries_of_found f = tries_kept f.tries f.text
 abbrev pub deletion_of_found : FoundDeletion → KeptFate
 deletion_of_found f = fate_kept f.fate f.text
 
--- of each place and each window what the history says
+-- they have of each place and each window what the history says
 pub record Tells (t : SaidLists) (h : List Said) : Type 0 where
   pub fates : (n i : ℕ) → option_map fate_of_found (fate_told t n i) ≡ fate_said h n i
   pub tries : (n i : ℕ) → option_map tries_of_found (tries_told t n i) ≡ tries_said h n i

@@ -1,4 +1,4 @@
--- What a `Says` tells, by its maps.
+-- What contracts see of a `Says`, by its maps.
 use Rattle.std.specs.Prelude.{ℕ, ◌≡◌, ◌<◌, ◌^◌, ◌==◌, nat_eq, List, length, map, None, is_some, true, if◌then◌else◌}
 use Rattle.std.specs.List.{list_any}
 use Rattle.std.specs.List.Sorted.{IsStrictlyIncreasing}
@@ -50,7 +50,7 @@ told_of a = record {
   deletions = map found_deletion a.deletions.entries;
 }
 
--- the fields go together
+-- the fields agree
 pub record IsGathered (a : Inside) : Type 0 where
   pub order : IsInOrder (told_of a)
   pub rising : IsStrictlyIncreasing a.shards.items
@@ -65,6 +65,6 @@ pub record IsGathered (a : Inside) : Type 0 where
 abbrev pub stated : (ℕ × ℕ) × List ℕ → SaidState
 stated e = record { shard = e.0.0; state = record { window = e.0.1; text = e.1 } }
 
--- the number of a shard, where that of one shard is at hand
+-- the number of a shard; that of one shard is at hand, the others are in the map
 abbrev pub number_with : map.BTreeMap ℕ ℕ → AtHand → ℕ → ℕ
 number_with numbers hand n = if hand.shard == n then hand.number else count_at (map.get nat_cmp numbers) n

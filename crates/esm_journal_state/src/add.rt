@@ -1,4 +1,4 @@
-// One more payload.
+// Adds one more payload.
 ghost use Rattle.std.specs.Prelude.{◌≡◌, ℕ, List, ◌∷◌, length, OnOk};
 ghost use Rattle.esm_model.specs.declared.entry.Fate.{Fate};
 ghost use Rattle.esm_model.specs.Sequence.{is_sequence};
@@ -14,7 +14,7 @@ use crate::table::{
 use esm_journal_record::{KeptTexts, Said};
 use esm_model::{Fate, OutOfMemory, Places, WindowState};
 
-/// Adds what one more payload says, whose texts it keeps. After an `Err` a part of it may stand there.
+/// Adds what one more payload says, and keeps its texts. After an error a part of it may have been added.
 pub(crate) fn add(growing: &mut Growing, said: Said) -> Result<(), OutOfMemory>
     requires { IsSaid said }
     ensures { OnOk result ((h : List Said) → IsGrown growing.old h → IsGrown growing.new (said ∷ h)) }

@@ -169,7 +169,7 @@ fn push_window_tries(
     Ok(())
 }
 
-/// The shorter list, with this moment.
+/// The shorter list, each payload with this moment.
 fn compact_saids(alloc: Global, table: &Table, moment: u64) -> Result<Vec<Said>, OutOfMemory>
     ensures { IfOk result (λ v. (h : List Said) → IsTable table.now h → moment ≡ greatest_moment h → IsCompacted h v.items) }
 {
@@ -189,7 +189,7 @@ fn compact_saids(alloc: Global, table: &Table, moment: u64) -> Result<Vec<Said>,
     Ok(saids)
 }
 
-/// The payloads that say so.
+/// The payloads that say these, in order.
 fn payloads_of(alloc: Global, saids: &[Said]) -> Result<Vec<Bytes>, OutOfMemory>
     requires { AllByRecursion IsSaid saids.now }
     ensures { IfOk result (λ v. v.items ≡ map payload_of saids.now) }
@@ -202,8 +202,8 @@ fn payloads_of(alloc: Global, saids: &[Said]) -> Result<Vec<Bytes>, OutOfMemory>
     Ok(payloads)
 }
 
-/// The shorter list of payloads that says the same as these, the oldest first: fates, tries, replays, states, windows'
-/// tries and deletions, each in order and with the greatest moment of the payloads. The refusals are those of `says`.
+/// The shorter list of payloads that says the same as these, the oldest first: fates, tries, replays, states, windows' tries
+/// and deletions, each in order and with the greatest moment of the payloads. Returns the errors of `says`.
 pub fn compacted(alloc: Global, payloads: &[Bytes]) -> Result<Vec<Bytes>, SaysError>
     ensures listed { IfOk result (λ v. (saids : List Said) × IsCompacted (history (reverse payloads.now)) saids × (v.items ≡ map payload_of saids)) }
     ensures same { IfOk result (λ v. SameSaid (history (reverse v.items)) (history (reverse payloads.now))) }

@@ -10,7 +10,7 @@ pub enum SaysError {
     /// The payload with this index, counted from 0, is the first that is no payload of a mapping's journal, or that
     /// is bad for a book after those before it.
     BadPayload(u32),
-    /// There was no memory for what the payloads say.
+    /// An allocation failed.
     OutOfMemory,
 }
 

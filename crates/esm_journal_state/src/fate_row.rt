@@ -1,4 +1,4 @@
-// Fates in the order of shards and places, looked up where they are thought to stand, and else by binary search.
+// Fates in the order of shards and places. A look-up tries the likely index first, then a binary search.
 ghost use Rattle.std.specs.Prelude.{◌≡◌, Some, None, IfOk, IfSome, option_copied};
 ghost use Rattle.std.specs.List.Sorted.{IsStrictlySortedBy};
 ghost use Rattle.std.specs.Map.{keys_of, lookup};
@@ -25,8 +25,8 @@ pub(crate) fn row_of(
     Ok(row)
 }
 
-/// For each shard how many fates are counted of the shards before it, which is where its first fate stands in the row: a
-/// look-up begins there, and any number will do.
+/// For each shard the number of fates of the shards before it, which is the index of its first fate in the row. A look-up
+/// begins there, and is right whatever the number.
 pub(crate) fn starts_of(
     alloc: Global,
     counts: &BTreeMap<u64, u32>,
@@ -40,7 +40,7 @@ pub(crate) fn starts_of(
     Ok(starts)
 }
 
-/// The fate that stands there in the row, where it is that of the shard's place.
+/// The fate at this index of the row, if it is that of the shard's place.
 fn kept_at(row: &[(Place, KeptFate)], at: usize, shard: u64, place: u32) -> Option<&KeptFate>
     requires { IsStrictlySortedBy pair_cmp (keys_of row.now) }
     ensures { IfSome result (λ kept. lookup (is_at (pair_cmp (shard, place))) row.now ≡ Some kept.now) }
@@ -57,7 +57,7 @@ fn kept_at(row: &[(Place, KeptFate)], at: usize, shard: u64, place: u32) -> Opti
     }
 }
 
-/// Where the fate of the shard's place stands, or where it would.
+/// The fate of the shard's place in the row, by binary search.
 fn search(row: &[(Place, KeptFate)], shard: u64, place: u32) -> Option<&KeptFate>
     requires { IsStrictlySortedBy pair_cmp (keys_of row.now) }
     ensures { option_copied result ≡ lookup (is_at (pair_cmp (shard, place))) row.entry.now }
@@ -68,8 +68,8 @@ fn search(row: &[(Place, KeptFate)], shard: u64, place: u32) -> Option<&KeptFate
     }
 }
 
-/// The fate of the shard's place in the row, looked for first where a shard's fates would have it that stand without a gap
-/// from this place of the row on.
+/// The fate of the shard's place in the row. Looks first where it is if the shard's fates begin at the index `start` and
+/// have no gap, and else searches.
 pub(crate) fn fate_in(
     row: &[(Place, KeptFate)],
     start: u32,

@@ -1,4 +1,4 @@
-// What a table tells, gathered for the calls of `Says`.
+// Turns a table into the lists and indexes from which `Says` answers.
 ghost use Rattle.std.specs.Prelude.{◌≡◌, ℕ, ◌<◌, ◌^◌, ◌==◌, ◌||◌, nat_eq, List, length, map, filter, true, false, None, is_some};
 ghost use Rattle.std.specs.Prelude.{option_map, unwrap_or, IfOk, OnOk};
 ghost use Rattle.std.specs.List.{list_any};
@@ -22,7 +22,7 @@ use esm_model::{Bytes, OutOfMemory, WindowState};
 use std::alloc::Global;
 use std::collections::{BTreeMap, BTreeSet};
 
-/// What the table tells.
+/// What the table says. Returns `OutOfMemory` also if it has 2^32 fates or more, or as many deletions.
 pub(crate) fn gathered(alloc: Global, table: Table) -> Result<Says, OutOfMemory>
     ensures told { IfOk result (λ s. (h : List Said) → IsTable table h → Tells s h) }
     ensures order { IfOk result (λ s. IsInOrder s) }
@@ -59,14 +59,14 @@ pub(crate) fn gathered(alloc: Global, table: Table) -> Result<Says, OutOfMemory>
     })
 }
 
-/// A shard, and its number so far, before the numbers have it.
+/// A shard and its number so far, which is not yet in the map of numbers.
 #[derive(Clone, Copy)]
 pub(crate) struct AtHand {
     shard: u64,
     number: u32,
 }
 
-/// The maps are in order, as the length of each tells the proof.
+/// The maps are in order: each call of `len` shows it to the proof.
 fn in_order(table: &Table)
     ensures { HasOrder table.now }
 {
@@ -78,7 +78,7 @@ fn in_order(table: &Table)
     let _ = table.deletions.len();
 }
 
-/// Puts the number at hand where its shard is another, and takes up that of the shard.
+/// Makes `shard` the one at hand: if it is another, puts the number at hand into the map and takes up that of `shard`.
 fn taken_up(
     numbers: &mut BTreeMap<u64, u32>,
     hand: AtHand,
@@ -95,8 +95,8 @@ fn taken_up(
     Ok(AtHand { shard, number })
 }
 
-/// For each shard its first place without a fate: the fates stand in the order of the places, so each place that is
-/// the first without one so far moves it on by one.
+/// For each shard its first place without a fate. The fates are in the order of the places, so a fate at the frontier so far
+/// moves the frontier on by one.
 fn frontiers_of(
     alloc: Global,
     fates: &BTreeMap<Place, KeptFate>,
@@ -164,7 +164,7 @@ fn is_last(last: Option<u64>, shard: u64) -> bool
     }
 }
 
-/// Adds the shards of the keys, each once for the keys of it that stand in a row.
+/// Adds the shards of the keys, once for each run of keys with the same shard.
 fn add_shards<T: Ord, V>(
     shards: &mut BTreeSet<u64>,
     keyed: &BTreeMap<(u64, T), V>,

@@ -1,5 +1,4 @@
-// A table that grows payload by payload. The fates that came last wait in a list, from which the map of fates is made
-// all at once.
+// A table that grows payload by payload. The recent fates wait in a list, from which the map of fates is made at once.
 ghost use Rattle.std.specs.Prelude.{◌≡◌, ◌≤◌, ℕ, List, [], ◌++◌, length, true, false, IfOk, OnOk};
 ghost use Rattle.std.specs.Ordering.{nat_cmp};
 ghost use Rattle.std.specs.BTreeMap as map;
@@ -18,17 +17,17 @@ use std::alloc::{AllocError, Global};
 use std::collections::BTreeMap;
 use std::mem;
 
-/// A table, of whose fates the recent ones are not yet in its map.
+/// A table whose recent fates are not yet in its map.
 #[derive(Drop)]
 pub(crate) struct Growing {
     pub table: Table,
     // in the order in which they came
     pub recent: Vec<(Place, KeptFate)>,
-    // for each shard with a fate a place, above which none of the shard has one
+    // for each shard with a fate, a place above which it has none
     pub tops: BTreeMap<u64, u32>,
 }
 
-/// That of no payload.
+/// The table of no payload.
 pub(crate) fn empty_growing(alloc: Global) -> Growing
     ensures { IsGrown result [] }
 {
@@ -39,7 +38,7 @@ pub(crate) fn empty_growing(alloc: Global) -> Growing
     }
 }
 
-/// The places of the shard get the fate, each with its text.
+/// Appends the fate of each of the shard's places, with its text.
 pub(crate) fn push_fates(
     recent: &mut Vec<(Place, KeptFate)>,
     shard: u64,
@@ -58,7 +57,7 @@ pub(crate) fn push_fates(
     Ok(())
 }
 
-/// Whether the place is above the shard's top, so that it has no fate.
+/// Whether the place is above the shard's top, and so has no fate.
 fn is_above(tops: &BTreeMap<u64, u32>, shard: u64, place: u32) -> bool
     ensures { result ≡ is_above (map.get nat_cmp tops.now shard) place }
 {
@@ -68,7 +67,7 @@ fn is_above(tops: &BTreeMap<u64, u32>, shard: u64, place: u32) -> bool
     }
 }
 
-/// The shard's top once the places, which rise, have fates.
+/// Raises the shard's top to the last of the places, which rise and now have fates.
 pub(crate) fn raise(
     tops: &mut BTreeMap<u64, u32>,
     shard: u64,
@@ -87,7 +86,7 @@ pub(crate) fn raise(
     Ok(())
 }
 
-/// The map of the fates, made of all at once.
+/// Makes the map of the fates at once.
 fn map_of(
     alloc: Global,
     fates: Vec<(Place, KeptFate)>,
@@ -111,7 +110,7 @@ fn put_each(
     Ok(())
 }
 
-/// Puts the fates into the map: all at once where it has none.
+/// Puts the fates into the map: at once if it is empty, else one by one.
 fn put_all(
     alloc: Global,
     fates: &mut BTreeMap<Place, KeptFate>,
@@ -127,7 +126,7 @@ fn put_all(
     Ok(())
 }
 
-/// Puts the recent fates into the table's map. After an `Err` a part of them is lost.
+/// Puts the recent fates into the table's map. After an error some of them are lost.
 pub(crate) fn settle(alloc: Global, growing: &mut Growing) -> Result<(), OutOfMemory>
     ensures grown { OnOk result ((h : List Said) → IsGrown growing.old h → IsGrown growing.new h) }
     ensures table { OnOk result ((h : List Said) → IsGrown growing.old h → IsTable growing.new.table h) }
@@ -138,7 +137,7 @@ pub(crate) fn settle(alloc: Global, growing: &mut Growing) -> Result<(), OutOfMe
     Ok(())
 }
 
-/// The map has the fates of the places, which rise. Where they are above the shard's top, they have none.
+/// Makes sure that the map has the fates of the places, which rise. Above the shard's top no place has one.
 fn know_fates(
     alloc: Global,
     growing: &mut Growing,
@@ -157,7 +156,7 @@ fn know_fates(
     Ok(())
 }
 
-/// The table's maps have all that judges what is said.
+/// Makes sure that the table's maps have all that is needed to judge what is said.
 pub(crate) fn make_ready(
     alloc: Global,
     growing: &mut Growing,

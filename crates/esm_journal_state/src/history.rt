@@ -1,4 +1,4 @@
-// A list of payloads, read one after the other.
+// Reads a list of payloads one after the other.
 ghost use Rattle.std.specs.Prelude.{◌≡◌, ℕ, List, ◌∷◌, true, reverse, IfOk, OnOk, IfErr};
 ghost use Rattle.esm_journal_record.specs.declared.said.Said.{Said};
 ghost use Rattle.esm_journal_state.specs.Bad.{IsFirstBad, IsAt};
@@ -19,7 +19,7 @@ use esm_journal_record::read_said;
 use esm_model::{Bytes, OutOfMemory};
 use std::alloc::Global;
 
-/// Adds what one more payload says, where it is good.
+/// Adds what one more payload says, if it is good; returns whether it is.
 fn take(alloc: Global, growing: &mut Growing, payload: &[u8]) -> Result<bool, OutOfMemory>
     ensures judged { IfOk result (λ good. (h : List Said) → IsGrown growing.old h → good ≡ is_good h payload.now) }
     ensures added { IfOk result (λ good. good ≡ true → (payloads : List (List ℕ)) → IsGrown growing.old (history payloads)
@@ -36,7 +36,7 @@ fn take(alloc: Global, growing: &mut Growing, payload: &[u8]) -> Result<bool, Ou
     Ok(true)
 }
 
-/// That the payload with this index is bad. No memory holds so many that 32 bits do not count them.
+/// The error for a bad payload with this index. An index above 32 bits, which no memory can hold, is `OutOfMemory`.
 fn bad_payload(index: usize) -> SaysError
     ensures { IsAt index result }
 {
@@ -62,9 +62,9 @@ pub(crate) fn table_of(alloc: Global, payloads: &[Bytes]) -> Result<Table, SaysE
     Ok(growing.table)
 }
 
-/// What the payloads say, the oldest first. Near-linear in their bytes: each place costs a logarithm.
-/// `BadPayload` exactly where a payload is none of a mapping's journal or is bad for a book after those before it, with
-/// the index of the first such one.
+/// What the payloads, the oldest first, say. Near-linear in their bytes: each place costs a logarithm. Returns `BadPayload`,
+/// with the index of the first such payload, if one is no payload of a mapping's journal or is bad for a book after those
+/// before it, and `OutOfMemory` if an allocation failed.
 pub fn says(alloc: Global, payloads: &[Bytes]) -> Result<Says, SaysError>
     ensures told { IfOk result (λ s. Tells s (history (reverse payloads.now))) }
     ensures order { IfOk result (λ s. IsInOrder s) }

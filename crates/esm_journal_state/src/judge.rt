@@ -1,4 +1,4 @@
-// Which payloads are bad for a book.
+// Judges which payloads are bad for a book.
 ghost use Rattle.std.specs.Prelude.{◌≡◌, ◌≤◌, ℕ, List, length, true, false, None};
 ghost use Rattle.std.specs.Option.{option_copied};
 ghost use Rattle.std.specs.BTreeMap as map;
@@ -13,7 +13,7 @@ use esm_model::Fate;
 use std::collections::BTreeMap;
 use std::ops::Bound;
 
-/// Whether it is bad for a book to say so, where the table has what was said before.
+/// Whether a payload that says this is bad for a book, given the table of what was said before.
 pub(crate) fn is_bad(table: &Table, said: &Said) -> bool
     requires { IsSaid said.now }
     ensures { result ≡ is_bad (known_in table.now) said.now }
@@ -94,7 +94,8 @@ fn none_between(fates: &BTreeMap<Place, KeptFate>, shard: u64, first: u32, last:
     }
 }
 
-/// Whether one search finds that none of the places was named before; of a single place a look-up finds it as soon.
+/// Whether one search shows that none of the places was named before. False of a single place, which a look-up judges as
+/// fast, and if the table has tries.
 fn are_new(table: &Table, shard: u64, places: &[u32]) -> bool
     requires { rises places.now ≡ true }
     ensures { result ≡ true → (texts : List (List ℕ)) → any_named (is_spent (known_in table.now) shard) places.now texts ≡ false }

@@ -13,21 +13,22 @@ ghost use Rattle.esm_journal_state.specs.Compact.{SameSaid};
 ghost use Rattle.esm_journal_state.specs.Tells.{Tells};
 ghost use Rattle.esm_journal_state.specs.SaidLists.{SaidLists, IsInOrder};
 
-/// Lists in order that tell of histories that say the same are equal: `says` of a compacted list is `says` of the list.
+/// Lists in order of what two histories say are equal if these say the same: `says` of a compacted list is `says` of the
+/// list.
 pub fn same_told()
     ensures { (t u : SaidLists) (g h : List Said) → Tells t g → Tells u h → SameSaid g h → IsInOrder t → IsInOrder u → t ≡ u }
 {}
 
-/// Over a journal whose old payloads tell the found fates, the old payloads followed by those of a legal history say of
-/// each place the fate that it has after the history: the found one, else the given one.
+/// Over a journal whose old payloads say the found fates, these payloads and then those of a legal history say of each place
+/// the fate that it has after the history: the found one, else the given one.
 pub fn fates_are_kept()
     ensures { (s : Setting) (h : List Entry) (t : SaidLists) (old : List (List ℕ)) → Legal s h → AllMayBeSaid s h →
         Tells t (history (reverse old)) → s.fates ≡ t.fates → (n i : ℕ) →
         option_map (λ (k : KeptFate). k.fate) (fate_said (history (reverse (old ++ history_payloads s h))) n i) ≡ fate s h n i }
 {}
 
-/// The checkpoint of a shard is the length of the longest prefix of the places that came which all have a fate by what
-/// the journal then says.
+/// The checkpoint of a shard is the length of the longest prefix of the places that came which all have a fate by what the
+/// journal says afterwards.
 pub fn checkpoint_is_kept()
     ensures { (s : Setting) (h : List Entry) (t : SaidLists) (old : List (List ℕ)) → Legal s h → AllMayBeSaid s h →
         Tells t (history (reverse old)) → s.fates ≡ t.fates → (n : ℕ) →

@@ -31,7 +31,7 @@ pub struct Says {
     // the shards in rising order, how many places of each have a fate, and how many places from 0 have one in a row
     pub(crate) shards: Vec<u64>,
     pub(crate) counts: BTreeMap<u64, u32>,
-    // about where each shard's fates begin
+    // about where each shard's fates begin in `fates`
     pub(crate) starts: BTreeMap<u64, u32>,
     pub(crate) frontiers: BTreeMap<u64, u32>,
 }
@@ -77,8 +77,8 @@ pub struct FoundTries<'a> {
 }
 
 impl Says {
-    /// The fate of the shard's record at the place; `None` exactly where no payload gave it one. Where all places of the
-    /// shard up to this one have a fate, it costs a look-up of the shard alone, and else a binary search.
+    /// The fate of the shard's record at the place; `None` if and only if no payload gave it one. If all places of the shard
+    /// up to this one have a fate, this costs a look-up of the shard alone, and else a binary search.
     pub fn fate(&self, shard: u64, place: u32) -> Option<Found<'_>>
         ensures { option_map (λ f. fate_kept f.fate f.text.now) result ≡ option_map fate_of_found (fate_told self.now shard place) }
     {
@@ -92,7 +92,7 @@ impl Says {
         }
     }
 
-    /// The deletion of the message at the place; `None` exactly where no payload names it.
+    /// The deletion of the message at the place; `None` if and only if no payload names it.
     pub fn deleted(&self, place: u32) -> Option<Found<'_>>
         ensures { option_map (λ f. fate_kept f.fate f.text.now) result ≡ option_map deletion_of_found (deletion_told self.now place) }
     {
@@ -105,7 +105,7 @@ impl Says {
         }
     }
 
-    /// The tries of the shard's record at the place; `None` exactly where it has a fate or no payload tells of tries.
+    /// The tries of the shard's record at the place; `None` if and only if it has a fate or no payload counts tries of it.
     pub fn tries(&self, shard: u64, place: u32) -> Option<FoundTries<'_>>
         ensures { option_map (λ f. tries_kept f.tries f.text.now) result ≡ option_map tries_of_found (tries_told self.now shard place) }
     {
@@ -128,8 +128,8 @@ impl Says {
         }
     }
 
-    /// The tries of the final calls of all windows of the shard, in the order of the windows. It looks at the windows of
-    /// every shard.
+    /// The tries of the final calls of all windows of the shard, in the order of the windows. Looks at the windows of every
+    /// shard.
     pub fn shard_window_tries(
         &self,
         alloc: Global,
@@ -140,14 +140,14 @@ impl Says {
         tries_of_shard(alloc, &self.window_tries, shard)
     }
 
-    /// Whether the shard's record at the place was called again by a replay.
+    /// Whether the shard's record at the place was replayed.
     pub fn replayed(&self, shard: u64, place: u32) -> bool
         ensures { result ≡ is_replay_told self.now shard place }
     {
         self.replays.contains(&(shard, place))
     }
 
-    /// The states of windows, by shard and window.
+    /// The states of windows, in the order of shards and windows.
     pub fn states(&self) -> &[SaidState]
         ensures { map found_state result.now ≡ self.now.states }
     {

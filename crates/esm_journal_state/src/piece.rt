@@ -1,4 +1,4 @@
-// Places of one group.
+// Cuts places of one group into pieces, one for each payload.
 ghost use Rattle.std.specs.Prelude.{◌≡◌, ◌<◌, ◌∷◌, reverse, IfOk, OnOk};
 ghost use Rattle.esm_journal_state.specs.Pieces.{piece_of, has_room, grown, piece_after, pieces};
 
@@ -8,7 +8,8 @@ use std::alloc::Global;
 use std::collections::BTreeMap;
 use std::marker::Model;
 
-/// A shard's number and the byte of a fate or a number of tries.
+/// The number of a shard, and the byte of a fate or a number of tries: what the places of one payload have in common. A
+/// deletion has no shard and a replay no second number; each then is 0.
 pub(crate) type Group = (u64, u32);
 
 /// Places of one group, at most 10,000, with their texts.
@@ -74,7 +75,7 @@ impl Piece {
     }
 }
 
-/// Adds one more place. After an `Err` some pieces may be missing.
+/// Adds one more place. After an error some pieces may be missing.
 fn add_place(
     alloc: Global,
     pieces: &mut Vec<Piece>,
@@ -122,7 +123,7 @@ fn go_on(
     start(alloc, pieces, group, place, text)
 }
 
-/// The places in pieces of at most 10,000 of one group.
+/// Cuts the places into pieces, each of at most 10,000 places of one group.
 pub(crate) fn pieces_of(
     alloc: Global,
     named: BTreeMap<(Group, u32), KeptText>,

@@ -1,4 +1,4 @@
-// What a table has, by groups.
+// Orders what a table has by groups.
 ghost use Rattle.std.specs.Prelude.{◌≡◌, ◌==◌, ◌&&◌, None, Some, IfOk, OnOk, if◌then◌else◌};
 ghost use Rattle.std.specs.Ordering.{nat_cmp, is_eq};
 ghost use Rattle.std.specs.BTreeMap as map;
@@ -19,7 +19,7 @@ use std::collections::{BTreeMap, BTreeSet};
 /// Texts by group and place.
 pub(crate) type Named = BTreeMap<(Group, u32), KeptText>;
 
-/// Puts the text, which shares its bytes.
+/// Inserts the text, which shares its bytes.
 fn put(named: &mut Named, group: Group, place: u32, text: &KeptText) -> Result<(), OutOfMemory>
     ensures { OnOk result ((q : Key) → map.get key_cmp named.new q
         ≡ (if is_eq (key_cmp (group, place) q) then Some text.now else map.get key_cmp named.old q)) }
@@ -29,7 +29,7 @@ fn put(named: &mut Named, group: Group, place: u32, text: &KeptText) -> Result<(
     Ok(())
 }
 
-/// Puts the text of a place that was replayed.
+/// Inserts the text of a place, if it was replayed.
 fn put_replay(
     named: &mut Named,
     replays: &BTreeSet<Place>,

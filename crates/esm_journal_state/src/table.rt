@@ -30,7 +30,7 @@ pub(crate) struct Table {
     pub deletions: BTreeMap<u32, KeptFate>,
 }
 
-/// That of no payload.
+/// The table of no payload.
 pub(crate) fn empty_table(alloc: Global) -> Table
     ensures { IsTable result [] }
 {

@@ -1,11 +1,11 @@
--- What holds of each lane as it is kept. This product's own.
+-- The invariant of a lane as it is kept. This product's own.
 use Rattle.std.specs.Prelude.{◌+◌, ◌<◌, ◌≤◌, length}
 use Rattle.std.specs.VecDeque.{deque_len, deque_capacity}
 use Rattle.esm_lanes.specs.declared.queue.PieceQueue.TheInside.{Inside}
 use Rattle.esm_lanes.specs.Run.{IsLaid}
 
--- the runs cover the places, whose number fits 32 bits; what is reserved is there: room for a place at each add,
--- and for a run at each add and each split
+-- The runs cover the places, whose number fits 32 bits. The reserved memory is there: room for a place for each add, and for
+-- a run for each add and each split.
 pub record IsQueue (q : Inside) : Type 0 where
   pub laid : IsLaid q.places.places q.runs.items
   pub few : length q.places.places < 4294967296

@@ -1,17 +1,17 @@
--- How a lane's pieces are kept: the open places in one list, and beside it a list of runs, each with its number of
--- places and its standing. This product's own.
+-- How a lane keeps its pieces: its open places in one list, and beside it a list of runs, each with its number of places and
+-- its standing. This product's own.
 use Rattle.std.specs.Prelude.{◌≡◌, ℕ, ◌+◌, ◌-◌, ◌<◌, nat_lt, if◌then◌else◌, List, [], ◌∷◌, length, take, drop}
 use Rattle.esm_lanes.specs.declared.standing.Standing.{Standing}
 use Rattle.esm_lanes.specs.declared.standing.Standing.TheVariants.{Split}
 use Rattle.esm_lanes.specs.declared.run.Run.{Run}
 use Rattle.esm_lanes.specs.Piece.{Piece, takes}
 
--- each run's places as a piece
+-- the pieces that the runs cut the places into
 abbrev pub pieces_of : List ℕ → List Run → List Piece
 pieces_of places [] = []
 pieces_of places (r ∷ rest) = record { places = take r.count places; standing = r.standing } ∷ pieces_of (drop r.count places) rest
 
--- the places of all runs
+-- the number of places of all runs
 abbrev pub total : List Run → ℕ
 total [] = 0
 total (r ∷ rest) = r.count + total rest
@@ -36,7 +36,7 @@ abbrev pub one_added_behind : Standing → Run → List Run → List Run
 one_added_behind standing r [] = if takes r.standing standing then longer r ∷ [] else r ∷ one standing ∷ []
 one_added_behind standing r (q ∷ rest) = r ∷ one_added_behind standing q rest
 
--- one more place at the end: it joins the last run where that takes it
+-- a place is added at the end: it joins the last run where that accepts it
 abbrev pub one_added : Standing → List Run → List Run
 one_added standing [] = one standing ∷ []
 one_added standing (r ∷ rest) = one_added_behind standing r rest
@@ -49,7 +49,7 @@ first_count (r ∷ rest) = r.count
 abbrev pub without : ℕ → Run → Run
 without n r = record { count = r.count - n; standing = r.standing }
 
--- what is left of a run stays where it has a place
+-- the rest of a run stays if it has a place left
 abbrev pub ahead_of : ℕ → Run → List Run → List Run
 ahead_of n r rest = if nat_lt n r.count then without n r ∷ rest else rest
 

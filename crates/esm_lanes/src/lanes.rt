@@ -10,11 +10,11 @@ use esm_model::OutOfMemory;
 use std::alloc::Global;
 use std::marker::Model;
 
-/// The lanes of a shard or of a queue, each seen as its pieces in order and the room that is reserved for it.
+/// The lanes of a shard or of a queue. Contracts see each as its pieces in order and the memory that is reserved for it.
 ///
-/// A lane keeps its open places in one list with a moving start, and a number and a standing for each piece.
-/// Each call takes constant time, taken over many calls; `reserve`, and an add or a split that finds no
-/// room, move what the lane holds where its memory grows.
+/// A lane keeps its open places in one list with a moving start, and for each piece its number of places and its standing.
+/// Each call takes amortized constant time, except that `reserve`, and an add or a split without reserved memory, copy what
+/// the lane holds when its memory grows.
 #[derive(Drop, Debug)]
 pub struct Lanes {
     lanes: Vec<PieceQueue>,
@@ -30,7 +30,7 @@ impl Model for Lanes {
 }
 
 impl Lanes {
-    /// So many lanes, 1 to 64, with no place.
+    /// Makes `lanes` lanes, 1 to 64, without places.
     pub fn new(alloc: Global, lanes: u32) -> Result<Lanes, OutOfMemory>
         requires some { 1 ≤ lanes }
         requires most { lanes ≤ MAX_LANES }
@@ -43,7 +43,7 @@ impl Lanes {
         Ok(Lanes { lanes: queues })
     }
 
-    /// One more place in the lane: it joins the last piece where that is fresh, and opens a fresh piece otherwise.
+    /// Adds a place at the end of the lane. It joins the last piece where that is fresh, and otherwise opens a fresh piece.
     /// After `OutOfMemory` nothing has changed.
     pub fn add(&mut self, _alloc: Global, lane: u32, place: u32) -> Result<(), OutOfMemory>
         requires known { lane < length self.old }
@@ -56,9 +56,9 @@ impl Lanes {
         self.lanes[lane as usize].add(Standing::Fresh, place)
     }
 
-    /// One more place in the lane that has failed so many times: it joins the last piece where an `add_tried`
-    /// with these tries opened it and it is no first part of a split, and opens a piece with these tries otherwise.
-    /// After `OutOfMemory` nothing has changed.
+    /// Adds a place that has failed `tries` times at the end of the lane. It joins the last piece if an `add_tried` with the
+    /// same tries opened that piece and the piece is not the first part of a split. Otherwise it opens a piece with these
+    /// tries. After `OutOfMemory` nothing has changed.
     pub fn add_tried(
         &mut self,
         _alloc: Global,
@@ -78,8 +78,8 @@ impl Lanes {
         self.lanes[lane as usize].add(Standing::Tried(tries), place)
     }
 
-    /// Memory for the next `adds` calls of `add` or `add_tried` and the next `splits` calls of `split` on this lane,
-    /// which then never answer `OutOfMemory`. After `OutOfMemory` nothing has changed.
+    /// Reserves memory for the next `adds` calls of `add` or `add_tried` and the next `splits` calls of `split` on this
+    /// lane, which then never return `OutOfMemory`. After `OutOfMemory` nothing has changed.
     pub fn reserve(
         &mut self,
         _alloc: Global,
@@ -95,7 +95,7 @@ impl Lanes {
         self.lanes[lane as usize].reserve(adds, splits)
     }
 
-    /// The lane's front piece; `None` exactly where the lane has no place.
+    /// The lane's front piece; `None` if and only if the lane has no place.
     pub fn front(&self, lane: u32) -> Option<Front<'_>>
         requires known { lane < length self.now }
         ensures none { IsNone result ↔ (open_at self.now lane ≡ []) }
@@ -107,8 +107,8 @@ impl Lanes {
         self.lanes[lane as usize].front()
     }
 
-    /// Splits the first `first` places of the front piece off: they are a piece that is not fresh and has these
-    /// tries, and the rest keeps its own. After `OutOfMemory` nothing has changed.
+    /// Splits off the first `first` places of the front piece: they become a piece of their own, which is not fresh and has
+    /// `tries` failed tries. The rest keeps its standing. After `OutOfMemory` nothing has changed.
     pub fn split(
         &mut self,
         _alloc: Global,
@@ -127,7 +127,7 @@ impl Lanes {
         self.lanes[lane as usize].split(first, tries)
     }
 
-    /// Takes the first `n` places of the front piece away, and the piece with its last place. Takes no memory.
+    /// Removes the first `n` places of the front piece, and with its last place the piece. Takes no memory.
     pub fn shorten(&mut self, lane: u32, n: u32)
         requires known { lane < length self.old }
         requires within { n ≤ front_length (lane_at self.old lane).pieces }

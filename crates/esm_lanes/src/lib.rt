@@ -1,6 +1,6 @@
-//! Lanes of open records: each lane holds pieces in order, and a piece is what is called together.
-//! New records join a fresh last piece; a failed batch is split off the front piece, and a piece that
-//! has its fates is shortened away. Pure values; no device, clock or thread.
+//! Lanes of open records: a lane holds pieces in order, and the records of a piece are called together. New records join a
+//! last piece that is fresh; a failed batch is split off the front piece; places that got their fates are removed from the
+//! front. Pure values; no device, clock or thread.
 #![tactic(auto)]
 
 mod lanes;

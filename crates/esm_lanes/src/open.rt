@@ -1,11 +1,11 @@
-// The open places of a lane, one list with a moving start whose memory is used again.
+// The open places of a lane, as one list with a moving start whose memory is reused.
 ghost use Rattle.std.specs.Prelude.{◌≡◌, ◌+◌, ◌-◌, ◌<◌, ◌≤◌, [], ◌∷◌, ◌++◌, length, drop, OnOk, IsOk};
 
 use std::alloc::{AllocError, Global};
 use std::marker::Model;
 
-/// The open places of a lane, in order: the items from `start` on. What stands before is gone, and its
-/// memory is used again once it is as much as what is open.
+/// The open places of a lane, in order: the items from `start` on. The items before `start` are no longer open; their memory
+/// is reused once they are at least as many as the open ones.
 #[derive(Drop, Debug)]
 pub struct OpenPlaces {
     items: Vec<u32>,
@@ -33,7 +33,7 @@ impl OpenPlaces {
         }
     }
 
-    /// Room for so many more places.
+    /// Reserves room for `count` more places.
     pub fn reserve(&mut self, count: usize) -> Result<(), AllocError>
         ensures places { self.new.places ≡ self.old.places }
         ensures ok { OnOk result (count ≤ self.new.spare) }
@@ -51,7 +51,7 @@ impl OpenPlaces {
         self.items.push_reserved(place);
     }
 
-    /// Takes the first `count` places away; takes no memory.
+    /// Removes the first `count` places. Takes no memory.
     pub fn drop_first(&mut self, count: usize)
         requires { count ≤ length self.old.places }
         ensures places { self.new.places ≡ drop count self.old.places }

@@ -1,4 +1,4 @@
-// The pieces of one lane in order: adding a place, and splitting, shortening and telling the front.
+// The pieces of one lane in order: how a place is added, and how the front piece is read, split and shortened.
 ghost use Rattle.std.specs.Prelude.{◌≡◌, ◌+◌, ◌<◌, ◌≤◌, ◌↔◌, [], length, All, OnOk, OnErr, IsOk, IsNone, IfSome};
 ghost use Rattle.esm_lanes.specs.Piece.{empty_lane, after_add, after_split, after_shorten, after_reserve, open_places, front_length, IsFront, HasPlaces};
 
@@ -17,7 +17,7 @@ pub struct Front<'a> {
     pub places: &'a [u32],
     /// Whether no call has failed with these places.
     pub fresh: bool,
-    /// The number of failed tries, 0 of a fresh piece.
+    /// The number of failed tries; 0 for a fresh piece.
     pub tries: u32,
 }
 
@@ -26,9 +26,9 @@ pub struct Front<'a> {
 pub struct PieceQueue {
     places: OpenPlaces,
     runs: VecDeque<Run>,
-    /// So many adds find memory.
+    /// The number of adds for which memory is reserved.
     adds: u32,
-    /// So many splits find memory.
+    /// The number of splits for which memory is reserved.
     splits: u32,
 }
 
@@ -57,7 +57,7 @@ impl PieceQueue {
         }
     }
 
-    /// Memory for so many adds and splits, or for as many as were reserved before where that is more.
+    /// Reserves memory for `adds` adds and `splits` splits; what was reserved before stays where it is more.
     pub fn reserve(&mut self, adds: u32, splits: u32) -> Result<(), OutOfMemory>
         ensures ok { OnOk result (self.new ≡ after_reserve adds splits self.old) }
         ensures err { OnErr result (self.new ≡ self.old) }
@@ -72,7 +72,7 @@ impl PieceQueue {
         Ok(())
     }
 
-    /// One more place at the end.
+    /// Adds a place at the end.
     pub fn add(&mut self, standing: Standing, place: u32) -> Result<(), OutOfMemory>
         requires few { length (open_places self.old.pieces) < u32.MAX }
         ensures ok { OnOk result (self.new ≡ after_add standing place self.old) }
@@ -94,7 +94,7 @@ impl PieceQueue {
         self.adds -= 1;
     }
 
-    /// Splits the first places of the front piece off, with so many tries.
+    /// Splits off the first places of the front piece, with this number of failed tries.
     pub fn split(&mut self, first: u32, tries: u32) -> Result<(), OutOfMemory>
         requires some { 1 ≤ first }
         requires within { first ≤ front_length self.old.pieces }
@@ -117,7 +117,7 @@ impl PieceQueue {
         self.splits -= 1;
     }
 
-    /// Takes the first places of the front piece away; takes no memory.
+    /// Removes the first places of the front piece. Takes no memory.
     pub fn shorten(&mut self, count: u32)
         requires { count ≤ front_length self.old.pieces }
         ensures { self.new ≡ after_shorten count self.old }
@@ -126,7 +126,7 @@ impl PieceQueue {
         shorten_first(&mut self.runs, count);
     }
 
-    /// The front piece; `None` exactly where no place is open.
+    /// The front piece; `None` if and only if no place is open.
     pub fn front(&self) -> Option<Front<'_>>
         ensures none { IsNone result ↔ (open_places self.now.pieces ≡ []) }
         ensures front { IfSome result (λ f. IsFront self.now.pieces f.places.now f.fresh f.tries) }

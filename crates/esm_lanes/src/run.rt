@@ -1,4 +1,4 @@
-// The runs of a lane, one for each piece: how many open places it has, and its standing.
+// The runs of a lane, one for each piece: its number of open places and its standing.
 ghost use Rattle.std.specs.Prelude.{◌≡◌, ◌+◌, ◌-◌, ◌<◌, ◌≤◌};
 ghost use Rattle.std.specs.VecDeque.{deque_len, deque_capacity};
 ghost use Rattle.esm_lanes.specs.Run as spec;
@@ -6,7 +6,7 @@ ghost use Rattle.esm_lanes.specs.Run as spec;
 use crate::standing::Standing;
 use std::collections::VecDeque;
 
-/// How many of a lane's open places are a piece, and its standing.
+/// A run of the lane's open places that are one piece: their number and their standing.
 #[derive(Clone, Copy, Debug)]
 pub struct Run {
     pub count: u32,
@@ -25,7 +25,7 @@ impl Run {
     }
 }
 
-/// One more place at the end: it joins the last run where that takes it.
+/// Adds a place at the end: it joins the last run where that accepts it, and otherwise begins one.
 pub fn add_one(runs: &mut VecDeque<Run>, standing: Standing)
     requires room { deque_len runs.old < deque_capacity runs.old }
     requires few { spec.total runs.old.items < 4294967295 }
@@ -50,7 +50,7 @@ pub fn add_one(runs: &mut VecDeque<Run>, standing: Standing)
     }
 }
 
-/// The first run in two: its first places with so many tries, and the rest where there is one.
+/// Splits the first run: its first places with this number of tries, and the rest, if there is one.
 pub fn split_first(runs: &mut VecDeque<Run>, first: u32, tries: u32)
     requires room { deque_len runs.old < deque_capacity runs.old }
     requires within { first ≤ spec.first_count runs.old.items }
@@ -72,7 +72,7 @@ pub fn split_first(runs: &mut VecDeque<Run>, first: u32, tries: u32)
     }
 }
 
-/// The first run without its first places; it goes where none is left.
+/// Shortens the first run by its first places; it goes if none is left.
 pub fn shorten_first(runs: &mut VecDeque<Run>, count: u32)
     requires within { count ≤ spec.first_count runs.old.items }
     ensures runs { runs.new.items ≡ spec.first_shortened count runs.old.items }

@@ -2,14 +2,14 @@
 ghost use Rattle.std.specs.Prelude.{◌≡◌};
 ghost use Rattle.esm_lanes.specs.Piece as spec;
 
-/// How a piece came to be, and so which places may join it.
+/// How a piece arose, which decides what places may join it.
 #[derive(Clone, Copy, Debug, PartialEq, Eq)]
 pub enum Standing {
     /// Opened by `add`: no call has failed with these places.
     Fresh,
-    /// Opened by `add_tried`, with so many failed tries.
+    /// Opened by `add_tried`, with this number of failed tries.
     Tried(u32),
-    /// The first part of a split, with so many failed tries: no place joins it.
+    /// The first part of a split, with this number of failed tries: no place joins it.
     Split(u32),
 }
 
@@ -20,7 +20,7 @@ impl Standing {
         matches!(self, Standing::Fresh)
     }
 
-    /// The number of failed tries, 0 of a fresh piece.
+    /// The number of failed tries; 0 for a fresh piece.
     pub fn tries(self) -> u32
         ensures { result ≡ spec.tries_of self }
     {
@@ -30,7 +30,7 @@ impl Standing {
         }
     }
 
-    /// Whether a place of this other standing joins such a piece.
+    /// Whether a place with the standing `other` may join a piece with this one.
     pub fn takes(self, other: Standing) -> bool
         ensures { result ≡ spec.takes self other }
     {

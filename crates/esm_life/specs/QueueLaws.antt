@@ -1,4 +1,4 @@
--- The laws over a queue's life by which each of its stages keeps them. Only this crate's proofs cite this.
+-- The laws of a queue's life from which those of each stage follow. Only this crate's proofs cite this.
 use Rattle.std.specs.Prelude.{◌≡◌, Bool, true, List, ◌∷◌, ◌++◌, Some}
 use Rattle.esm_queue_life.specs.Life.{AreRewritten, DeletionStays, EachDeletedOnce, EachIsEarned, EachRedriveIsEarned, GoesOnFrom, GroupsInOrder, IdsAreKept, IsLife, NoneIsCalledAgain, Ran, Redriven, Run, Stage, content, run_of}
 use Rattle.esm_redrive_life.specs.Content.{DeletionsAreRecorded}

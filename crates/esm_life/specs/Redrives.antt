@@ -1,4 +1,4 @@
--- What the files hold after a run of a redrive, as what a stage of the life of its queue leaves. This product's own.
+-- What the files hold after a redrive: what a stage of the life of its queue leaves. This product's own.
 use Rattle.std.specs.Prelude.{◌≡◌, ◌++◌, ◌∷◌, ℕ, Bool, true, List, Option, Some}
 use Rattle.esm_io.specs.Meanings.{DiskMeaning}
 use Rattle.esm_folder.specs.Upkeep.{AreHonest, PairHolds}
@@ -22,40 +22,40 @@ use Rattle.esm_redrive_run.specs.Stages.{IsLeft}
 use Rattle.esm_life.specs.Left.{ArePairLeft}
 use Rattle.esm_life.specs.Queues.{HasFoundLife, KeepsLaws, OpensToLife}
 
--- The disks have these bytes: the pair opens to the content that was found, followed by the payloads of what the journal
--- recorded, and the dead-letter file to the lines that were found, followed by those of the entries that it has the lines of.
--- Both are such as a stage may leave.
+-- With these bytes of the disks, the pair opens to the content that was found, followed by the payloads of what the journal
+-- recorded, and the dead-letter file to the lines that were found, followed by those of the entries in `lined`. A stage may
+-- leave both.
 pub record LeftBy {D : Type 0} (gave : ℕ → Bool) (f : FilesState D) (s : RedriveSetting) (h hand tried : List Entry) (one other bytes : List ℕ) : Type 0 where
   pub recorded : List Entry
   pub lined : List Entry
-  -- each of their moments is one that the clock gave, that of the entry in hand and of the tried one too
+  -- each of their moments is one that the clock gave, those of the entry in hand and of the tried one included
   pub moments : AreGiven gave recorded
   pub lines_given : AreGiven gave lined
   pub left : IsLeft s h hand tried recorded lined
   pub content_is : PairOpensTo (header_of 2) f.pair.epoch (content_after s.queue recorded f.pair.payloads) one other
   pub lines_are : OpensTo (header_of 1) (f.dest.payloads ++ lines_of lined) bytes
 
--- these bytes may be left: of the journal at any moment since the run's start, or since its files were opened; of the dead-letter
--- file now
+-- A crash may leave these bytes: of the journal at any moment since the run's start, or since its files were opened; of the
+-- dead-letter file now.
 pub record MayBeLeft {D : Type 0} (m : DiskMeaning D) (f : FilesState D) (new : Disks D) (one other bytes : List ℕ) : Type 0 where
   pub honest : AreHonest m f.journal f.spare
   pub honest_lines : m.honest f.failures ≡ true
   pub left : ArePairLeft m f new.journal new.spare one other
   pub dead : m.image new.dead bytes
 
--- the redrive of which the files kept so much
+-- the redrive as a stage, with what its files kept of it
 abbrev pub stage_of : RedriveSetting → (h recorded lined : List Entry) → Redrive
 stage_of s h recorded lined = record { setting = s; happened = h; recorded = recorded; lined = lined }
 
--- Whatever a crash leaves after a run of which the headline holds is left by a redrive over what was found: both by one
--- `recorded` and one `lined`.
+-- Whatever a crash leaves after a run whose headline holds is what a redrive over what was found leaves: the content and the
+-- lines by the same `recorded` and `lined`.
 abbrev pub IsLeftByStage : {D : Type 0} → DiskMeaning D → (ℕ → Bool) → Words → FilesState D → List Message → RedriveSetting → List Entry → Option Trouble → (hand tried : List Entry) → Disks D → (one other bytes : List ℕ) → Type 0
 IsLeftByStage m gave w f messages s h trouble hand tried new one other bytes =
     IsOpenedFiles m f → IsSettingOf w f messages s → Headline m gave f s h trouble hand tried new → MayBeLeft m f new one other bytes →
     (left : LeftBy gave f s h hand tried one other bytes) × IsRedriveOver (is_fifo w.config.kind) (stage_of s h left.recorded left.lined) f.pair.payloads f.dest.payloads
 
--- no device failed: the redrive is whole, the pair opens to the content that it leaves, the dead-letter file reads as the lines
--- that it leaves, and a crash leaves nothing else
+-- If no device failed, the redrive is whole, the pair opens to the content that it leaves, the dead-letter file reads as the
+-- lines that it leaves, and a crash leaves nothing else.
 pub record IsLeftWhole {D : Type 0} (m : DiskMeaning D) (f : FilesState D) (s : RedriveSetting) (h hand tried : List Entry) (new : Disks D) : Type 0 where
   pub left : IsLeft s h hand tried h h
   pub whole : IsWhole (stage_of s h h h)
@@ -68,7 +68,7 @@ IsWholeStage m gave f s h trouble hand tried new =
 
 -- a life
 
--- with a further redrive of this setting, in which this happened, the life is one, and the bytes open to what it leaves
+-- with this redrive as a further stage the life is still one, and the bytes open to what it leaves
 pub record LeavesLife (gave : ℕ → Bool) (fifo : Bool) (life : List Stage) (s : RedriveSetting) (h : List Entry) (epoch : ℕ) (one other bytes : List ℕ) : Type 0 where
   pub recorded : List Entry
   pub lined : List Entry
@@ -86,7 +86,7 @@ GoesOnWithStage m gave w f messages s h trouble hand tried new one other bytes l
 abbrev pub run_in : RedriveSetting → (h recorded : List Entry) → Run
 run_in s h recorded = record { setting = s.queue; happened = h; recorded = recorded }
 
--- and it keeps the laws of the whole life; each deletion that it adds is earned in it
+-- it keeps the laws of the whole life, and each deletion that it adds is earned in it
 abbrev pub KeepsLawsInLife : Bool → RedriveSetting → (h recorded lined : List Entry) → List Stage → Type 0
 KeepsLawsInLife fifo s h recorded lined life =
     IsLife fifo life → IsRedriveOver fifo (stage_of s h recorded lined) (content life) (dead_lines life) →

@@ -1,4 +1,4 @@
--- The laws over lists of replays by which those of a life hold. Only this crate's proofs cite this.
+-- The laws of lists of replays from which those of a life follow. Only this crate's proofs cite this.
 use Rattle.std.specs.Prelude.{◌≡◌, true, List, ◌∷◌, ◌++◌, reverse}
 use Rattle.esm_journal_record.specs.EntryPayload.{AllMayBeSaid, history_payloads}
 use Rattle.esm_journal_state.specs.Meaning.{are_good, history}

@@ -1,4 +1,4 @@
--- A run of a replay as one of the life of its mapping. This product's own.
+-- A run of a replay as a stage of the life of its mapping. This product's own.
 use Rattle.std.specs.Prelude.{◌≡◌, ◌∷◌, ◌++◌, ℕ, Bool, List, [], Option, None, reverse, filter_map}
 use Rattle.esm_io.specs.Meanings.{DiskMeaning}
 use Rattle.esm_folder.specs.Upkeep.{AreHonest}
@@ -17,8 +17,8 @@ use Rattle.esm_replay_life.specs.ReplayLife.{Added, IsLife as IsReplayLife, IsRe
 use Rattle.esm_life.specs.Left.{ArePairLeft}
 use Rattle.esm_life.specs.Life.{Ran, Replay, Rewritten, Stage, content}
 
--- A run of which the headline holds is a replay over what was found, whatever front of the payloads of its trace, and of the
--- entry in hand, its journal kept.
+-- A run whose headline holds is a replay over what was found, whatever prefix its journal kept of the payloads of its
+-- history and of the entry in hand.
 abbrev pub IsStage : {D : Type 0} → DiskMeaning D → (ℕ → Bool) → Config → (calls : ℕ) → FilesState D → (came : List Record) → ReplaySetting → List Entry → Option Trouble → (hand : List Entry) → Disks D → (left rest : List (List ℕ)) → Type 0
 IsStage m gave config calls f came s h trouble hand new left rest =
     IsOpenedFiles m f → IsSettingOf config calls f came s → first_change f.said [] came ≡ None → Headline m gave f s h trouble hand new →
@@ -31,8 +31,8 @@ pub record LeftBy {D : Type 0} (f : FilesState D) (s : ReplaySetting) (h hand : 
   pub content_is : PairOpensTo (header_of 2) f.pair.epoch (f.pair.payloads ++ left) one other
   pub stage : IsReplayRunOver (record { setting = s; happened = h; hand = hand; left = left }) f.pair.payloads
 
--- So is whatever a crash leaves of the journal, at any moment since the start of a run of which the headline holds, or since its files
--- were opened.
+-- So does whatever a crash leaves of the journal, at any moment since the start of a run whose headline holds, or since its
+-- files were opened.
 abbrev pub IsLeftByStage : {D : Type 0} → DiskMeaning D → (ℕ → Bool) → Config → (calls : ℕ) → FilesState D → (came : List Record) → ReplaySetting → List Entry → Option Trouble → (hand : List Entry) → Disks D → (one other : List ℕ) → Type 0
 IsLeftByStage m gave config calls f came s h trouble hand new one other =
     IsOpenedFiles m f → IsSettingOf config calls f came s → first_change f.said [] came ≡ None → Headline m gave f s h trouble hand new →
@@ -45,7 +45,7 @@ under_replays (Ran r ∷ stages) = Added (history_payloads r.setting r.recorded)
 under_replays (Replay r ∷ stages) = OneReplay r ∷ under_replays stages
 under_replays (Rewritten list ∷ stages) = WrittenAnew list ∷ under_replays stages
 
--- the laws over lists of replays speak of it, and of the same content
+-- the laws of lists of replays hold of it, and it has the same content
 pub record IsUnderReplays (life : List Stage) : Type 0 where
   pub is_life : IsReplayLife (under_replays life)
   pub content_is : replay_content (under_replays life) ≡ content life

@@ -1,4 +1,4 @@
--- What the journal holds after a run of a stream's mapping, as what a stage of the mapping's life leaves. This product's own.
+-- What the journal holds after a run of a stream's mapping: what a stage of the mapping's life leaves. This product's own.
 use Rattle.std.specs.Prelude.{◌≡◌, ◌⊎◌, ◌+◌, ◌∷◌, ◌++◌, ℕ, Bool, false, List, [], Option, Some, None}
 use Rattle.esm_io.specs.Meanings.{DiskMeaning}
 use Rattle.esm_folder.specs.Init.{IsInitEnd}
@@ -30,32 +30,33 @@ use Rattle.esm_life.specs.Tries.{TriesGoOn}
 
 -- one run
 
--- the run of which the journal kept so much
+-- the run as a stage; `recorded` is what the journal kept of it
 abbrev pub stage_of : Setting → (h recorded : List Entry) → Run
 stage_of s h recorded = record { setting = s; happened = h; recorded = recorded }
 
--- the pair opens to the content that was found, followed by the payloads of what the journal recorded; and with that the run is
--- one that may stand in a life over what was found
+-- The pair opens to the content that was found, followed by the payloads of what the journal recorded. With that, the run is
+-- a stage over what was found.
 pub record LeftBy {D : Type 0} (gave : ℕ → Bool) (f : FilesState D) (s : Setting) (h : List Entry) (one other : List ℕ) : Type 0 where
   pub recorded : List Entry
-  -- each of its moments is one that the clock gave, that of the entry in hand too
+  -- each of its moments is one that the clock gave, that of an entry in hand included
   pub moments : AreGiven gave recorded
   pub run_over : IsRunOver (stage_of s h recorded) f.pair.payloads
   pub content_is : PairOpensTo (header_of 2) f.pair.epoch (content_after s recorded f.pair.payloads) one other
 
--- a crash may leave these bytes of the journal's disks, of each at any moment since the run's start, or since its files were opened
+-- A crash may leave these bytes of the journal's disks, at any moment since the run's start, or since its files were opened.
 pub record MayBeLeft {D : Type 0} (m : DiskMeaning D) (f : FilesState D) (journal spare : D) (one other : List ℕ) : Type 0 where
   pub honest : AreHonest m f.journal f.spare
   pub left : ArePairLeft m f journal spare one other
 
--- a run over opened files, of which the headline holds
+-- a run over opened files, whose headline holds
 pub record HasRunOver {D F : Type 0} (m : DiskMeaning D) (callers : Outside F) (line : List ℕ → List ℕ) (config : Config) (calls : ℕ) (f : FilesState D) (records : List Record) (s : Setting) (h : List Entry) (trouble : Option Trouble) (hand : List Entry) (new : Devices D F) : Type 0 where
   pub opened : IsOpenedFiles m f
   pub is_setting : IsSettingOf config calls f.said records s
   pub headline : Headline (telling callers m line) f s h trouble hand new
 
--- no disk of the journal failed: the journal recorded all that happened, the pair opens to the content that the run leaves, and a
--- crash leaves nothing else; and where the failure file did not fail either, and no record was found changed, nothing is owed
+-- If no disk of the journal failed, the journal recorded everything that happened, the pair opens to the content that the
+-- run leaves, and a crash leaves nothing else. If the failure file did not fail either, and no record was found changed,
+-- nothing is owed.
 pub record IsLeftWhole {D F : Type 0} (m : DiskMeaning D) (f : FilesState D) (s : Setting) (h : List Entry) (trouble : Option Trouble) (new : Devices D F) : Type 0 where
   pub run_over : IsRunOver (stage_of s h h) f.pair.payloads
   pub content_is : AreHonest m f.journal f.spare → PairHolds m f.pair.epoch (content_after s h f.pair.payloads) new.journal new.spare
@@ -68,11 +69,11 @@ pub record OpensToLife (life : List Stage) (epoch : ℕ) (one other : List ℕ) 
   pub is_life : IsLife life
   pub content_is : pair_opened (header_of 2) one other ≡ Holding epoch (content life)
 
--- the files were opened to the content that a life leaves
+-- the files opened to the content that a life leaves
 abbrev pub HasFoundLife : {D : Type 0} → FilesState D → List Stage → Type 0
 HasFoundLife f life = IsLife life × (f.pair.payloads ≡ content life)
 
--- with a further run of this setting, in which this happened, the life is one, and the bytes open to what it leaves
+-- with this run as a further stage the life is still one, and the bytes open to what it leaves
 pub record LeavesLife (gave : ℕ → Bool) (life : List Stage) (s : Setting) (h : List Entry) (epoch : ℕ) (one other : List ℕ) : Type 0 where
   pub recorded : List Entry
   pub moments : AreGiven gave recorded
@@ -82,7 +83,7 @@ pub record LeavesLife (gave : ℕ → Bool) (life : List Stage) (s : Setting) (h
 abbrev pub replay_of : ReplaySetting → (h hand : List Entry) → (left : List (List ℕ)) → ReplayRun
 replay_of s h hand left = record { setting = s; happened = h; hand = hand; left = left }
 
--- with a further replay of this setting, in which this happened, the life is one, and the bytes open to what it leaves
+-- with this replay as a further stage the life is still one, and the bytes open to what it leaves
 pub record LeavesReplayed (life : List Stage) (s : ReplaySetting) (h hand : List Entry) (epoch : ℕ) (one other : List ℕ) : Type 0 where
   pub left : List (List ℕ)
   pub opens : OpensToLife (Replay (replay_of s h hand left) ∷ life) epoch one other
@@ -91,20 +92,21 @@ pub record LeavesReplayed (life : List Stage) (s : ReplaySetting) (h hand : List
 abbrev pub IsFoundAgain : {D : Type 0} → DiskMeaning D → FilesState D → List Stage → ℕ → Type 0
 IsFoundAgain m f life epoch = IsOpenedFiles m f → AreHonest m f.journal f.spare → OpensToLife life epoch (m.content f.journal) (m.content f.spare) → HasFoundLife f life
 
--- Files that `init` made open to the life in which nothing has happened, and a crash leaves nothing else of them.
+-- Files that `init` made open to what a life without stages leaves, and a crash leaves nothing else of them.
 abbrev pub IsNewLife : {D : Type 0} → DiskMeaning D → (old new : Disks D) → Type 0
 IsNewLife m old new =
     IsInitEnd m old new Done → AreHonest m old.journal old.spare →
     AreSettled m new.journal new.spare × OpensToLife [] 1 (m.content new.journal) (m.content new.spare)
 
--- whatever a crash leaves of a compaction of the journal, the life is that from before, or has the list that was written
+-- whatever a crash leaves of a compaction of the journal, the life is as before, or has the list that was written as a
+-- further stage
 abbrev pub IsCompactedLife : {D : Type 0} → DiskMeaning D → List Stage → ℕ → (journal spare journal' spare' : D) → (one other : List ℕ) → Type 0
 IsCompactedLife m life epoch journal spare journal' spare' one other =
     IsCompacting m journal spare journal' spare' → AreHonest m journal spare → AreSettled m journal spare → OpensToLife life epoch (m.content journal) (m.content spare) →
     m.since journal' (m.moment journal) one → m.since spare' (m.moment spare) other →
     OpensToLife life epoch one other ⊎ ((list : List (List ℕ)) × OpensToLife (Rewritten list ∷ life) (epoch + 1) one other)
 
--- a pair of version 1 with the payloads of a life is that life's once it was written as one of version 2
+-- a pair of version 1 with the payloads of a life is still that life's once it was written as one of version 2
 abbrev pub IsMigratedLife : {D : Type 0} → DiskMeaning D → List Stage → (journal spare journal' spare' : D) → (payloads : List (List ℕ)) → Type 0
 IsMigratedLife m life journal spare journal' spare' payloads =
     IsLife life → payloads ≡ content life → (migrated : IsMigrated m journal spare journal' spare' payloads) →
@@ -116,32 +118,32 @@ pub record OpensToLifeOfVersion1 (life : List Stage) (epoch : ℕ) (one other : 
   pub version : is_version_2 one other ≡ false
   pub content_is : pair_opened (header_of 1) one other ≡ Holding epoch (content life)
 
--- whatever a crash leaves while such a pair is written as one of version 2 opens to the same life: as the pair that it was, or with
--- the next epoch as one of version 2
+-- whatever a crash leaves while such a pair is written as one of version 2 opens to the same life: as the pair that it was,
+-- or as one of version 2 with the next epoch
 abbrev pub IsMigratingLife : {D : Type 0} → DiskMeaning D → List Stage → ℕ → (journal spare journal' spare' : D) → (one other : List ℕ) → Type 0
 IsMigratingLife m life epoch journal spare journal' spare' one other =
     IsMigrating m journal spare journal' spare' → AreHonest m journal spare → AreSettled m journal spare → OpensToLifeOfVersion1 life epoch (m.content journal) (m.content spare) →
     m.since journal' (m.moment journal) one → m.since spare' (m.moment spare) other →
     OpensToLifeOfVersion1 life epoch one other ⊎ OpensToLife life (epoch + 1) one other
 
--- whatever a crash leaves of the journal, at any moment since the start of a replay that found what a life leaves, the life has a
--- further stage
+-- whatever a crash leaves of the journal after a replay that found what a life leaves, the life has that replay as a further
+-- stage
 abbrev pub IsReplayedLife : {D : Type 0} → DiskMeaning D → (ℕ → Bool) → Config → (calls : ℕ) → FilesState D → (came : List Record) → ReplaySetting → List Entry → Option Trouble → (hand : List Entry) → ReplayDisks D → (one other : List ℕ) → List Stage → Type 0
 IsReplayedLife m gave config calls f came s h trouble hand new one other life =
     IsOpenedFiles m f → IsReplaySettingOf config calls f came s → first_change f.said [] came ≡ None → ReplayHeadline m gave f s h trouble hand new →
     MayBeLeft m f new.journal new.spare one other → HasFoundLife f life → LeavesReplayed life s h hand f.pair.epoch one other
 
--- whatever a crash leaves of disks that were only read, as where files were refused or no run began, opens to the same life
+-- whatever a crash leaves of disks that were only read, because files were refused or no run began, opens to the same life
 abbrev pub IsSameLife : {D : Type 0} → DiskMeaning D → List Stage → ℕ → (journal spare journal' spare' : D) → (one other : List ℕ) → Type 0
 IsSameLife m life epoch journal spare journal' spare' one other =
     AreOnlyRead m journal spare journal' spare' → AreHonest m journal spare → AreSettled m journal spare → OpensToLife life epoch (m.content journal) (m.content spare) →
     m.since journal' (m.moment journal) one → m.since spare' (m.moment spare) other → OpensToLife life epoch one other
 
--- What holds over a life for a further run in it. A recorded fate stays, and one that is recorded in the run is earned in it. No
--- call of the run holds a record that had a recorded fate when it began, or was given one in it before the call; and the calls of
--- all runs together keep the order of each key. The recorded checkpoint does not fall, and is that of what the journal recorded.
--- The next run, whenever it is, finds what this one knew; of tries too, but for one at most that an end of a call counted and whose
--- entry does not stand. One payload at most says the fate of a record.
+-- What holds over a life for a further run. A recorded fate stays, and one that is first recorded in the run is earned in
+-- it. No call of the run holds a record that had a recorded fate when the run began, or was given one in it before the call;
+-- and the calls of all runs together keep the order of each key. The recorded checkpoint does not fall, and is that of what
+-- the journal recorded. The next run, whenever it comes, finds what this one knew; of tries too, except at most one, which
+-- the end of a call counted and whose entry was not written. At most one payload says the fate of a record.
 pub record KeepsLaws (r : Run) (life : List Stage) : Type 0 where
   pub fates_stay : FateStays (Ran r ∷ []) life
   pub each_is_earned : EachIsEarned r life

@@ -25,27 +25,27 @@ is_final_try_of w (Success places state) = false
 is_final_try_of w (GiveUp places) = false
 is_final_try_of w (Close window) = false
 
--- no lane of the shard is owed such a try: none that the end of its last call counted is without its entry
+-- no lane of the shard is owed such a try: none that the end of its last call counted lacks its entry
 abbrev pub OwesNoTry : Setting → List Entry → ℕ → ℕ → Type 0
 OwesNoTry s h n i = (lane : LaneId) → lane.shard ≡ n → list_any (is_try_of i) (debts s h lane) ≡ false
 
 abbrev pub OwesNoFinalTry : Setting → List Entry → ℕ → ℕ → Type 0
 OwesNoFinalTry s h n w = (lane : LaneId) → lane.shard ≡ n → list_any (is_final_try_of w) (debts s h lane) ≡ false
 
--- The next run finds the tries that the history knew of a record, where no lane owes it one; in any case no more, and one less at
--- most.
+-- The next run finds the tries that the history knew of a record, if no lane is owed one; in any case it finds no more, and
+-- at most one less.
 pub record FindsTries (s : Setting) (h : List Entry) (next : Setting) (n i : ℕ) : Type 0 where
   pub exact : OwesNoTry s h n i → capped_tries (found_tries next n i) ≡ tries s h n i
   pub no_more : capped_tries (found_tries next n i) ≤ tries s h n i
   pub one_less : tries s h n i ≤ capped_tries (found_tries next n i) + 1
 
--- and those of a window's final call
+-- the same of a window's final call
 pub record FindsWindowTries (s : Setting) (h : List Entry) (next : Setting) (n w : ℕ) : Type 0 where
   pub exact : OwesNoFinalTry s h n w → capped_tries (found_window_tries next n w) ≡ window_tries s h n w
   pub no_more : capped_tries (found_window_tries next n w) ≤ window_tries s h n w
   pub one_less : window_tries s h n w ≤ capped_tries (found_window_tries next n w) + 1
 
--- of each record without a fate, and of each window
+-- the same of each record without a fate, and of each window
 pub record TriesGoOn (s : Setting) (h : List Entry) (next : Setting) : Type 0 where
   pub records : (n i : ℕ) → lacks_fate s h n i ≡ true → FindsTries s h next n i
   pub windows : (n w : ℕ) → FindsWindowTries s h next n w

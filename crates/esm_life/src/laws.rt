@@ -1,4 +1,5 @@
-// The laws by which those of a life hold, in one place: over lists of replays, and over lists of a queue's runs and redrives.
+// The laws from which those of a life follow, in one place: of lists of replays, and of lists of a queue's runs and
+// redrives.
 ghost use Rattle.esm_life.specs.QueueLaws.{AreQueueLaws};
 ghost use Rattle.esm_life.specs.ReplayLaws.{AreReplayLaws};
 
@@ -8,7 +9,7 @@ use esm_replay_life::life::{
     none_is_called_again, replays_stay, runs_replay_nothing,
 };
 
-/// Does nothing.
+/// States the laws of lists of replays. Does nothing.
 pub(crate) fn replay_laws_hold()
     ensures { AreReplayLaws }
 {
@@ -21,7 +22,7 @@ pub(crate) fn replay_laws_hold()
     runs_replay_nothing();
 }
 
-/// Does nothing.
+/// States the laws of a queue's life. Does nothing.
 pub(crate) fn queue_laws_hold()
     ensures { AreQueueLaws }
 {

@@ -1,5 +1,5 @@
-//! The life of a mapping: what holds of lists of runs, each as the contract of a function that does nothing. What one run leaves to
-//! the next; that runs of the program are stages of its life.
+//! The life of a mapping: what holds of lists of runs, each law as the contract of a function that does nothing; what one
+//! run leaves to the next; and that runs of the program are stages of such a life.
 //! Pure: no device, clock or thread.
 #![tactic(auto)]
 

@@ -1,4 +1,4 @@
-// That what a run of a queue's mapping leaves on its files is that of a stage of the mapping's life.
+// What a run of a queue's mapping leaves on its files is what a stage of the mapping's life leaves.
 ghost use Rattle.std.specs.Prelude.{ℕ, Bool, List, Option};
 ghost use Rattle.esm_io.specs.Meanings.{disk as meaning};
 ghost use Rattle.esm_folder.specs.declared.disks.Disks.{Disks};
@@ -17,8 +17,9 @@ ghost use Rattle.esm_life.specs.Queues.{IsCompactedLife, IsMigratedLife, IsMigra
 use crate::laws::queue_laws_hold;
 use esm_io::{Caller, Disk};
 
-/// Whatever a crash leaves of the files after a run is the content of a stage of the life over what was found, and the dead letters that
-/// were found: of each at any moment since they were opened, and at any since the run's start where its disk had one image then.
+/// Whatever a crash leaves of the files after a run is the content of a stage over what was found, and the dead letters that
+/// were found. This holds of a crash at any moment since the files were opened, and since the run's start if each disk had
+/// one image then.
 pub fn left_is_stage<D: Disk, F: Caller>()
     ensures { (callers : Outside F) (line : List ℕ → List ℕ) (config : Config) (calls visibility : ℕ) (f : FilesState D) (messages : List Message)
         (s : QueueSetting)
@@ -26,7 +27,7 @@ pub fn left_is_stage<D: Disk, F: Caller>()
         IsLeftByStage (meaning D.Disk) callers line config calls visibility f messages s h trouble hand new one other bytes }
 {}
 
-/// Where no disk of the journal failed the stage is whole, and the journal has all that happened in it.
+/// If no disk of the journal failed, the stage is whole, and the journal has everything that happened in it.
 pub fn ended_is_whole<D: Disk, F: Caller>()
     ensures { (callers : Outside F) (line : List ℕ → List ℕ) (config : Config) (calls visibility : ℕ) (f : FilesState D) (messages : List Message)
         (s : QueueSetting)
@@ -34,7 +35,7 @@ pub fn ended_is_whole<D: Disk, F: Caller>()
         IsWholeStage (meaning D.Disk) callers line config calls visibility f messages s h trouble hand new }
 {}
 
-/// So a run that found what a life leaves adds a stage to it, and each image of its files opens to what the life then leaves.
+/// A run that found what a life leaves adds a stage to it, and each image of its files opens to what the life then leaves.
 pub fn life_goes_on<D: Disk, F: Caller>()
     ensures { (callers : Outside F) (line : List ℕ → List ℕ) (config : Config) (calls visibility : ℕ) (f : FilesState D) (messages : List Message)
         (s : QueueSetting)
@@ -42,19 +43,20 @@ pub fn life_goes_on<D: Disk, F: Caller>()
         GoesOnWithStage (meaning D.Disk) callers line config calls visibility f messages s h trouble hand new one other bytes life }
 {}
 
-/// And it keeps the laws of the whole life, whatever its journal recorded of it: so each deletion that it adds is earned in it.
+/// Such a stage keeps the laws of the whole life, whatever its journal recorded of it; each deletion that it adds is earned
+/// in it.
 pub fn run_keeps_laws()
     ensures { (fifo : Bool) (s : QueueSetting) (h recorded : List Entry) (life : List Stage) → KeepsLawsInLife fifo s h recorded life }
 {
     queue_laws_hold();
 }
 
-/// A life begins where `init` has made the files: whatever a crash then leaves of them is what a life without stages leaves.
+/// A life begins when `init` has made the files: whatever a crash then leaves of them is what a life without stages leaves.
 pub fn life_begins<D: Disk>()
     ensures { (old new : Disks D) (fifo : Bool) → IsLifeBegun (meaning D.Disk) old new fifo }
 {}
 
-/// The next run or redrive finds that.
+/// The next run or redrive finds what the life leaves.
 pub fn life_is_found<D: Disk>()
     ensures { (f : FilesState D) (fifo : Bool) (life : List Stage) (epoch : ℕ) → IsFoundAgain (meaning D.Disk) f fifo life epoch }
 {}
@@ -65,19 +67,19 @@ pub fn compacted_life_goes_on<D: Disk>()
         IsCompactedLife (meaning D.Disk) fifo life epoch journal spare journal' spare' one other bytes }
 {}
 
-/// A pair of version 1 that is written as one of version 2 keeps its life.
+/// A pair of version 1 that was written as one of version 2 keeps its life.
 pub fn migrated_life_stays<D: Disk>()
     ensures { (fifo : Bool) (life : List Stage) (journal spare journal' spare' : D) (payloads : List (List ℕ)) (bytes : List ℕ) →
         IsMigratedLife (meaning D.Disk) fifo life journal spare journal' spare' payloads bytes }
 {}
 
-/// And so it does while it is written, at any moment: what a crash then leaves opens to the life, of version 1 or of version 2.
+/// So it does at any moment while it is written: what a crash then leaves opens to the life, as version 1 or as version 2.
 pub fn migrating_life_stays<D: Disk>()
     ensures { (fifo : Bool) (life : List Stage) (epoch : ℕ) (journal spare journal' spare' : D) (one other bytes : List ℕ) →
         IsMigratingLife (meaning D.Disk) fifo life epoch journal spare journal' spare' one other bytes }
 {}
 
-/// Where nothing was written, as where files are refused or a run does not begin, the life stays as it is.
+/// If nothing was written, because files were refused or a run did not begin, the life stays as it is.
 pub fn unwritten_life_stays<D: Disk>()
     ensures { (fifo : Bool) (life : List Stage) (epoch : ℕ) (journal spare failures journal' spare' failures' : D) (one other bytes : List ℕ) →
         IsSameLife (meaning D.Disk) fifo life epoch journal spare failures journal' spare' failures' one other bytes }

@@ -1,4 +1,4 @@
-// That what the program does to a journal is a stage of its life under replays: a replay, a run between them, a compaction.
+// What the program does to a journal is a stage of its life under replays: a replay, a run between replays, a compaction.
 ghost use Rattle.std.specs.Prelude.{◌≡◌, ℕ, Bool, true, List, Option, reverse};
 ghost use Rattle.esm_io.specs.Meanings.{disk as meaning};
 ghost use Rattle.esm_model.specs.declared.book.Trouble.{Trouble};
@@ -23,30 +23,32 @@ use esm_history::content::content_stays_good;
 use esm_io::Disk;
 use esm_replay_life::life::runs_replay_nothing;
 
-/// The laws over lists of replays speak of each run of a replay of which the headline holds: what they ask of one are its clauses.
+/// Each run of a replay whose headline holds is a replay in the sense of the laws over lists of replays: its clauses are
+/// what they require.
 pub fn run_is_stage<D: Disk>()
     ensures { (gave : ℕ → Bool) (config : Config) (calls : ℕ) (f : FilesState D) (came : List Record) (s : ReplaySetting) (h : List Entry)
         (trouble : Option Trouble)
         (hand : List Entry) (new : Disks D) (left rest : List (List ℕ)) → IsStage (meaning D.Disk) gave config calls f came s h trouble hand new left rest }
 {}
 
-/// Whatever a crash leaves of the journal after such a run is the content of a stage over what was found: at any moment since its files
-/// were opened, and at any since its start where its disks had one image then.
+/// Whatever a crash leaves of the journal after such a run is the content of a stage over what was found. This holds of a
+/// crash at any moment since the files were opened, and since the run's start if its disks had one image then.
 pub fn left_is_stage<D: Disk>()
     ensures { (gave : ℕ → Bool) (config : Config) (calls : ℕ) (f : FilesState D) (came : List Record) (s : ReplaySetting) (h : List Entry)
         (trouble : Option Trouble)
         (hand : List Entry) (new : Disks D) (one other : List ℕ) → IsLeftByStage (meaning D.Disk) gave config calls f came s h trouble hand new one other }
 {}
 
-/// The life of a mapping, of runs, replays and rewritings, is one of replays to which each run added payloads: so those laws hold of
-/// all that the program does to a journal.
+/// The life of a mapping, of runs, replays and lists, is a list of replays to which each run added payloads, so the laws of
+/// such lists hold of everything that the program does to a journal.
 pub fn life_is_under_replays()
     ensures { (life : List Stage) → IsLife life → IsUnderReplays life }
 {
     replay_laws_hold();
 }
 
-/// A legal history of a stream's run may come between replays: its payloads are of no kind 7, and none is bad for a book.
+/// A legal history of a stream's run may come between replays: none of its payloads is of kind 7, and each could have been
+/// written by a book.
 pub fn run_may_come_between()
     ensures { (s : Setting) (h : List Entry) (old : List (List ℕ)) → are_good (reverse old) ≡ true → Legal s h → AllMayBeSaid s h →
         IsOpenedOver s old → AreFurther (history_payloads s h) old }
@@ -55,7 +57,7 @@ pub fn run_may_come_between()
     runs_replay_nothing();
 }
 
-/// What a compaction writes says the same as what it found, and may stand in its place between replays.
+/// A compaction writes a list that says the same as what it found, and may take its place between replays.
 pub fn compaction_says_the_same()
     ensures { (payloads list : List (List ℕ)) → AreCompacted payloads list → SaysTheSame list payloads }
 {}

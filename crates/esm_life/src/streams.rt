@@ -1,4 +1,4 @@
-// That what a run of a stream's mapping leaves on its journal is that of a stage of the mapping's life.
+// What a run of a stream's mapping leaves on its journal is what a stage of the mapping's life leaves.
 ghost use Rattle.std.specs.Prelude.{ℕ, Bool, List, Option};
 ghost use Rattle.esm_io.specs.Meanings.{disk as meaning};
 ghost use Rattle.esm_folder.specs.declared.disks.Disks.{Disks};
@@ -23,8 +23,8 @@ use crate::life::{
 };
 use esm_io::{Caller, Disk};
 
-/// Whatever a crash leaves of the journal after a run is the content of a stage of the life over what was found: at any moment since
-/// its files were opened, and at any since its start where its disks had one image then.
+/// Whatever a crash leaves of the journal after a run is the content of a stage over what was found. This holds of a crash
+/// at any moment since the files were opened, and since the run's start if its disks had one image then.
 pub fn left_is_stage<D: Disk, F: Caller>()
     ensures { (callers : Outside F) (line : List ℕ → List ℕ) (config : Config) (calls : ℕ) (f : FilesState D) (records : List Record)
         (s : Setting) (h : List Entry)
@@ -32,8 +32,8 @@ pub fn left_is_stage<D: Disk, F: Caller>()
         IsLeftByStage (meaning D.Disk) callers line config calls f records s h trouble hand new one other }
 {}
 
-/// Where no disk of the journal failed the stage is whole, and the journal has all that happened in it; where the run ended without
-/// any trouble, nothing is owed after it.
+/// If no disk of the journal failed, the stage is whole, and the journal has everything that happened in it; if the run
+/// ended without any trouble, nothing is owed after it.
 pub fn ended_is_whole<D: Disk, F: Caller>()
     ensures { (callers : Outside F) (line : List ℕ → List ℕ) (config : Config) (calls : ℕ) (f : FilesState D) (records : List Record)
         (s : Setting) (h : List Entry)
@@ -41,7 +41,7 @@ pub fn ended_is_whole<D: Disk, F: Caller>()
         IsWholeStage (meaning D.Disk) callers line config calls f records s h trouble hand new }
 {}
 
-/// So a run that found what a life leaves adds a stage to it, and each image of its journal opens to what the life then leaves.
+/// A run that found what a life leaves adds a stage to it, and each image of its journal opens to what the life then leaves.
 pub fn life_goes_on<D: Disk, F: Caller>()
     ensures { (callers : Outside F) (line : List ℕ → List ℕ) (config : Config) (calls : ℕ) (f : FilesState D) (records : List Record)
         (s : Setting) (h : List Entry)
@@ -49,7 +49,7 @@ pub fn life_goes_on<D: Disk, F: Caller>()
         GoesOnWithStage (meaning D.Disk) callers line config calls f records s h trouble hand new one other life }
 {}
 
-/// And it keeps the laws of the whole life, whatever its journal recorded of it.
+/// Such a run keeps the laws of the whole life, whatever its journal recorded of it.
 pub fn run_keeps_laws<D: Disk, F: Caller>()
     ensures { (callers : Outside F) (line : List ℕ → List ℕ) (config : Config) (calls : ℕ) (f : FilesState D) (records : List Record)
         (s : Setting) (h : List Entry)
@@ -72,7 +72,7 @@ pub fn life_is_found<D: Disk>()
     ensures { (f : FilesState D) (life : List Stage) (epoch : ℕ) → IsFoundAgain (meaning D.Disk) f life epoch }
 {}
 
-/// A life begins with `init`.
+/// A life begins with an `init` that made its files.
 pub fn life_begins<D: Disk>()
     ensures { (old new : Disks D) → IsNewLife (meaning D.Disk) old new }
 {}
@@ -83,19 +83,19 @@ pub fn compacted_life_goes_on<D: Disk>()
         IsCompactedLife (meaning D.Disk) life epoch journal spare journal' spare' one other }
 {}
 
-/// A pair of version 1 that is written as one of version 2 keeps its life.
+/// A pair of version 1 that was written as one of version 2 keeps its life.
 pub fn migrated_life_stays<D: Disk>()
     ensures { (life : List Stage) (journal spare journal' spare' : D) (payloads : List (List ℕ)) →
         IsMigratedLife (meaning D.Disk) life journal spare journal' spare' payloads }
 {}
 
-/// And so it does while it is written, at any moment: what a crash then leaves opens to the life, of version 1 or of version 2.
+/// So it does at any moment while it is written: what a crash then leaves opens to the life, as version 1 or as version 2.
 pub fn migrating_life_stays<D: Disk>()
     ensures { (life : List Stage) (epoch : ℕ) (journal spare journal' spare' : D) (one other : List ℕ) →
         IsMigratingLife (meaning D.Disk) life epoch journal spare journal' spare' one other }
 {}
 
-/// A replay between two runs, however it stops, adds a stage to the life.
+/// A replay between two runs adds a stage to the life, however it stops.
 pub fn replay_goes_on<D: Disk>()
     ensures { (gave : ℕ → Bool) (config : Config) (calls : ℕ) (f : FilesState D) (came : List Record) (s : ReplaySetting) (h : List Entry)
         (trouble : Option Trouble)
@@ -103,7 +103,7 @@ pub fn replay_goes_on<D: Disk>()
         IsReplayedLife (meaning D.Disk) gave config calls f came s h trouble hand new one other life }
 {}
 
-/// Where nothing was written, as where files are refused or a run does not begin, the life stays as it is.
+/// If nothing was written, because files were refused or a run did not begin, the life stays as it is.
 pub fn unwritten_life_stays<D: Disk>()
     ensures { (life : List Stage) (epoch : ℕ) (journal spare journal' spare' : D) (one other : List ℕ) →
         IsSameLife (meaning D.Disk) life epoch journal spare journal' spare' one other }

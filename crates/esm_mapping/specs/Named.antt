@@ -1,7 +1,7 @@
--- The mapping that the words of `run` name, as a text or by its id in the registry, or a text alone by the kind that a command
--- expects, and why there is none that may run: the registry has no such mapping, it is disabled, a field of the text is
--- refused, or the registry's file is refused. Source:
--- the Lambda API reference, `CreateEventSourceMapping` and `GetEventSourceMapping`; the order is this product's own.
+-- The mapping that the words of `run` name, by its text or by its id in the registry, or that a command gets as a text of
+-- the kind that it expects; and why there is none that may run: the registry has no such mapping, it is disabled, a field of
+-- the text is refused, or the registry's file is refused. Source: the Lambda API reference, `CreateEventSourceMapping` and
+-- `GetEventSourceMapping`; the order is this product's own.
 use Rattle.std.specs.Prelude.{◌≡◌, ℕ, Bool, true, false, List, Option, Some, None, is_ok}
 use Rattle.serde_json.specs.Data.{Data}
 use Rattle.serde_json.specs.Read.{read}
@@ -30,22 +30,23 @@ use Rattle.esm_mapping.specs.declared.named.NamedMapping.{NamedMapping}
 
 -- what a run may rely on
 
--- of a stream, or of a queue
+-- a valid configuration of a stream's mapping, or of a queue's
 abbrev pub IsConfigOf : Bool → Config → Type 0
 IsConfigOf true c = IsStreamConfig c
 IsConfigOf false c = IsQueueConfig c
 
--- it is enabled, each field is within the bounds of its kind, its filters are patterns, and it starts at a known place
+-- the mapping is enabled, each field is within the bounds of its kind, the filters are patterns, and it starts at a known
+-- position
 pub record MayRun (named : NamedMapping) : Type 0 where
   pub enabled : named.config.enabled ≡ true
   pub valid : IsConfigOf (is_stream named.config.kind) named.config
   pub patterns : is_ok (read_patterns (is_stream named.config.kind) named.config.filters) ≡ true
   pub start : is_latest named.start ≡ false
 
--- a mapping that a text is
+-- a mapping given as a text
 
--- the text reads as JSON, no field of it is refused, and the fields give the configuration, which is of the expected kind and
--- says where it starts
+-- the text reads as JSON, no field is refused, and the fields give the configuration; this is of the expected kind and says
+-- where it starts
 pub record IsOfText (e : Expected) (text : List ℕ) (named : NamedMapping) : Type 0 where
   pub value : Data
   pub reads : read text ≡ Some value
@@ -62,19 +63,19 @@ IsDisabledText e text = (named : NamedMapping) × IsOfText e text named × (name
 
 -- a mapping of the registry
 
--- the registry's file opens to payloads, and they say these mappings
+-- the registry's file opens to payloads that say these mappings
 pub record HasMappings {D : Type 0} (m : DiskMeaning D) (registry : D) (mappings : Mappings) : Type 0 where
   pub payloads : List (List ℕ)
   pub opens : m.honest registry ≡ true → OpensTo (header_of 1) payloads (m.content registry)
   pub said : mappings_of payloads ≡ Some mappings
 
--- of the mappings that the file says, this is what is found under the id
+-- among the mappings that the file says, this is the one with the id, if there is one
 pub record Finds {D : Type 0} (m : DiskMeaning D) (registry : D) (id : List ℕ) (found : Option Mapping) : Type 0 where
   pub mappings : Mappings
   pub has : HasMappings m registry mappings
   pub found_is : mapping_at id mappings.list ≡ found
 
--- the configuration is the mapping's, and so is where it starts, a `LATEST` being the moment of its creation
+-- the configuration is the mapping's, and so is the start, with `LATEST` as the moment of the mapping's creation
 pub record IsOfMapping (mapping : Mapping) (named : NamedMapping) : Type 0 where
   pub config_is : named.config ≡ mapping.config
   pub start_is : named.start ≡ start_after mapping.created mapping.config.start
@@ -85,7 +86,7 @@ IsNamedById m id registry named = (mapping : Mapping) × Finds m registry id (So
 abbrev pub IsDisabledId : {D : Type 0} → DiskMeaning D → List ℕ → D → Type 0
 IsDisabledId m id registry = (mapping : Mapping) × Finds m registry id (Some mapping) × (mapping.config.enabled ≡ false)
 
--- the payload with this index is the first in the file that is none of a registry's
+-- the file opens to payloads, and the one with this index is the first that is not a registry's
 abbrev pub HasBadPayload : ℕ → List ℕ → Type 0
 HasBadPayload index bytes = (payloads : List (List ℕ)) × OpensTo (header_of 1) payloads bytes × IsFirstBad payloads index
 
@@ -95,16 +96,16 @@ abbrev pub IsNamed : {D : Type 0} → DiskMeaning D → Which → D → NamedMap
 IsNamed m (which.Config text) registry named = IsExpected StreamOrQueue text named
 IsNamed m (which.Mapping id) registry named = IsNamedById m id registry named
 
--- why they name none that may run; want of memory has no cause
+-- why the words name no mapping that may run; running out of memory has no cause here
 
--- of a text: a field is refused, or it is disabled
+-- for a text: a field is refused, or the mapping is disabled
 abbrev pub WhyNotExpected : Expected → List ℕ → MappingError → Type 0
 WhyNotExpected e text (error.BadParam param) = refused_field e text ≡ Some param
 WhyNotExpected e text error.Disabled = IsDisabledText e text
 WhyNotExpected e text error.OutOfMemory = Unit {0}
 WhyNotExpected e text _ = ⊥
 
--- of an id: the registry's file is refused, or its disk failed; the registry has no such mapping, or it is disabled
+-- for an id: the registry's file is refused, its disk failed, the registry has no such mapping, or the mapping is disabled
 abbrev pub WhyNotById : {D : Type 0} → DiskMeaning D → List ℕ → (old new : D) → MappingError → Type 0
 WhyNotById m id old new error.NotAJournal = m.honest old ≡ true → opened (header_of 1) (m.content old) ≡ Foreign
 WhyNotById m id old new (error.Damaged place) = m.honest old ≡ true → opened (header_of 1) (m.content old) ≡ Damaged place
@@ -115,7 +116,7 @@ WhyNotById m id old new error.Disabled = IsDisabledId m id old
 WhyNotById m id old new (error.BadParam param) = ⊥
 WhyNotById m id old new error.OutOfMemory = Unit {0}
 
--- `old` and `new` are the registry's disk as it was handed in and as it was handed back
+-- `old` and `new` are the registry's disk as it was given and as it came back
 abbrev pub WhyNot : {D : Type 0} → DiskMeaning D → Which → (old new : D) → MappingError → Type 0
 WhyNot m (which.Config text) old new e = WhyNotExpected StreamOrQueue text e
 WhyNot m (which.Mapping id) old new e = WhyNotById m id old new e

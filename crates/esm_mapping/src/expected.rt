@@ -1,24 +1,24 @@
-// The kind of mapping that a command expects, where a text gives it.
+// The kind of mapping that a command expects when a text gives the mapping.
 ghost use Rattle.std.specs.Prelude.{◌≡◌};
 ghost use Rattle.esm_model.specs.Valid.{is_stream};
 ghost use Rattle.esm_mapping.specs.Expected.{is_expected};
 
 use esm_model::Kind;
 
-/// What a command expects of the mapping that a text gives.
+/// The kind of mapping that a command expects when a text gives the mapping.
 #[derive(Clone, Copy, Debug, PartialEq, Eq)]
 pub enum Expected {
-    /// A Kinesis stream's or an SQS queue's.
+    /// A mapping of a Kinesis stream or of an SQS queue.
     StreamOrQueue,
-    /// A Kinesis stream's: a queue's is refused.
+    /// A mapping of a Kinesis stream; a queue's is refused.
     Stream,
-    /// An SQS queue's: a stream's is refused.
+    /// A mapping of an SQS queue; a stream's is refused.
     Queue,
-    /// That of the stream of a DynamoDB table, by the fields of such a one.
+    /// A mapping of a DynamoDB table's stream, by the table of fields for such mappings.
     DynamoDb,
 }
 
-/// Whether it is a stream's.
+/// Whether the kind is a stream's.
 fn is_stream(kind: Kind) -> bool
     ensures { result ≡ is_stream kind }
 {

@@ -1,4 +1,4 @@
-// The mapping that a JSON text is, of the kind that a command expects.
+// Reading a mapping from its JSON text, of the kind that a command expects.
 ghost use Rattle.std.specs.Prelude.{◌≡◌, Some, IfOk, IfErr};
 ghost use Rattle.serde_json.specs.Read.{read as read_json};
 ghost use Rattle.serde_json.specs.View.{view};
@@ -14,7 +14,7 @@ use esm_model::{Config, OutOfMemory, Text, parse_json_text};
 use serde_json::Value;
 use std::alloc::Global;
 
-/// The mapping of a configuration of the text's, where it may run.
+/// The mapping with the configuration that the text gives, if it is of the expected kind and may run.
 fn configured(
     expected: Expected,
     text: &Text,
@@ -42,7 +42,7 @@ fn configured(
     Ok(NamedMapping { config, start })
 }
 
-/// The configuration of the value, by the table of the kind that is expected.
+/// Reads the configuration from the value, by the table of the expected kind.
 fn read_fields(alloc: Global, expected: Expected, value: &Value) -> Result<Config, ConfigError>
     ensures ok { IfOk result (λ c. config_as expected (view value.now) ≡ Some c) }
     ensures given { IfOk result (IsGivenAs expected) }
@@ -54,7 +54,7 @@ fn read_fields(alloc: Global, expected: Expected, value: &Value) -> Result<Confi
     }
 }
 
-/// The mapping of the text, which reads as this value.
+/// Reads the mapping from the text, which reads as this value.
 fn read_value(
     alloc: Global,
     expected: Expected,
@@ -72,10 +72,10 @@ fn read_value(
     }
 }
 
-/// The mapping that the text is, where a command takes a mapping's text and expects one of this kind.
-/// `BadParam` names the first field, in the order of the table, that is refused: `Body` where the text is no JSON. Where the
-/// table refuses none it is `EventSourceArn` for a mapping of another kind, enabled or not, and then `StartingPosition` for a
-/// `LATEST`. `Disabled` where nothing else is refused.
+/// Reads the mapping from a text, for a command that expects a mapping of this kind. `BadParam` names the first field that
+/// is refused, in the order of the table; `Body` means that the text is no JSON object. If the table refuses none, it is
+/// `EventSourceArn` for a mapping of another kind, enabled or not, and then `StartingPosition` for a `LATEST`. `Disabled` is
+/// returned where nothing else is refused.
 pub fn read_expected(
     alloc: Global,
     expected: Expected,

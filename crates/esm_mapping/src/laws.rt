@@ -1,4 +1,4 @@
-//! That one answer alone has its cause, as the contracts of functions that do nothing.
+//! Laws that exactly one answer has its cause, as the contracts of functions that do nothing.
 ghost use Rattle.std.specs.Prelude.{◌≡◌, ◌≢◌, ℕ, List, true};
 ghost use Rattle.esm_cli.specs.declared.command.Which.{Which};
 ghost use Rattle.esm_io.specs.Faults.{Rose};
@@ -11,8 +11,8 @@ ghost use Rattle.esm_mapping.specs.declared.named.NamedMapping.{NamedMapping};
 
 use esm_io::Disk;
 
-/// Where the registry's disk is honest and did not fail, the words name one mapping that may run, or there is one reason
-/// why they name none. So each answer but want of memory comes exactly where its cause stands.
+/// If the registry's disk is honest and did not fail, the words name one mapping that may run, or there is one reason why
+/// they name none. So, unless memory runs out, each answer is returned if and only if its cause holds.
 pub fn one_answer<D: Disk>()
     ensures one_mapping { (w : Which) (old : D) (one other : NamedMapping) → D.honest old ≡ true
         → IsNamed (meaning D.Disk) w old one
@@ -25,7 +25,7 @@ pub fn one_answer<D: Disk>()
         → WhyNot (meaning D.Disk) w old new other → other ≢ error.OutOfMemory → one ≡ other }
 {}
 
-/// A text is one mapping of the expected kind that may run, or there is one reason why it is none.
+/// A text is one mapping of the expected kind that may run, or there is one reason why it is not.
 pub fn one_expected()
     ensures one_mapping { (e : Expected) (text : List ℕ) (one other : NamedMapping) → IsExpected e text one → IsExpected e text other → one ≡ other }
     ensures no_reason { (e : Expected) (text : List ℕ) (named : NamedMapping) (why : MappingError) → IsExpected e text named

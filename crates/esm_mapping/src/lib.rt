@@ -1,7 +1,7 @@
-//! Which mapping a command runs, and where in its input it starts: the one that a JSON text is, of the kind that the command
-//! expects, or for `run` one of the registry's. It is judged whole before a record is read: that it is there, that no field is
-//! refused, and that it is enabled. The registry's file is opened only where a mapping of it is named, and nothing is written
-//! to it.
+//! Which mapping a command runs, and where in its input it starts. The mapping is given as a JSON text, of the kind that the
+//! command expects, or, for `run`, by its id in the registry. It is judged whole before a record is read: whether it exists,
+//! whether a field is refused, and whether it is enabled. The registry's file is opened only if an id is given, and nothing
+//! is written to it.
 #![tactic(auto)]
 
 mod copying;

@@ -1,4 +1,4 @@
-// The mapping that a run is given, its start in the input, and why the words may name none.
+// The mapping of a run and where it starts, and why the words may name none.
 use esm_config::Param;
 use esm_model::{Config, Start};
 
@@ -6,7 +6,7 @@ use esm_model::{Config, Start};
 #[derive(Drop, Debug)]
 pub struct NamedMapping {
     pub config: Config,
-    /// Never `Latest`: a mapping of the registry that starts there starts at the moment of its creation.
+    /// Where it starts; never `Latest`: a mapping of the registry with that position starts at the moment of its creation.
     pub start: Start,
 }
 
@@ -15,22 +15,22 @@ pub struct NamedMapping {
 pub enum MappingError {
     /// The registry's file does not begin with a journal's header.
     NotAJournal,
-    /// It is damaged at this place, in bytes from its start.
+    /// The file is damaged at this offset, in bytes from its start.
     Damaged { place: u64 },
-    /// Its payload with this index, counted from 0, is the first that is none of a registry's.
+    /// The payload with this index, counted from 0, is the first in the file that is not a registry's.
     BadPayload { index: u32 },
-    /// Its disk's count of faults rose.
+    /// The count of faults of its disk rose.
     DiskFault,
     /// The registry has no mapping with this id.
     Unknown,
     /// The mapping is disabled.
     Disabled,
-    /// The first field, in the order of the table, that is refused; `Body` where the text is no JSON.
+    /// This field is the first, in the order of the table, that is refused; `Body` means that the text is no JSON object.
     BadParam(Param),
     OutOfMemory,
 }
 
-/// What the words name, and the registry's disk, of which nothing was written.
+/// The mapping that the words name, or why there is none, and the registry's disk, to which nothing was written.
 #[derive(Drop)]
 pub struct MappingRead<D> {
     pub named: Result<NamedMapping, MappingError>,

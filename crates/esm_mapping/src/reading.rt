@@ -1,4 +1,4 @@
-// Reading the mapping of a run, from a text or by its id from the registry.
+// Reading the mapping of a run, from its text or from the registry by its id.
 ghost use Rattle.std.specs.Prelude.{◌≡◌, ℕ, List, IfOk, IfErr};
 ghost use Rattle.esm_cli.specs.declared.command.Which.TheVariants.{Config};
 ghost use Rattle.esm_io.specs.Meanings.{disk as meaning};
@@ -13,11 +13,11 @@ use esm_cli::Which;
 use esm_io::Disk;
 use std::alloc::Global;
 
-/// The mapping that the words name, of a stream or of a queue, and where in its input it starts.
-/// Of a text the first field that is refused is named, in the order of the table, a `LATEST` after all of them; then the
-/// mapping must be enabled. For an id the registry's file is opened and judged first, then the mapping must be there and
-/// be enabled; where it says `LATEST` it starts at the moment of its creation. Nothing is written, and the registry's disk
-/// is not touched where a text names the mapping. `DiskFault` only where its count of faults rose.
+/// Reads the mapping that the words name, of a stream or of a queue, and where in its input it starts. For a text, the error
+/// names the first field that is refused, in the order of the table, with a `LATEST` after all of them; then the mapping has
+/// to be enabled. For an id, the registry's file is opened and judged first; then the mapping has to be there and to be
+/// enabled. If its position is `LATEST`, it starts at the moment of its creation. Nothing is written, and if a text gives
+/// the mapping, the registry's disk is not touched. `DiskFault` is returned only where the disk's count of faults rose.
 pub fn read_mapping<D: Disk>(alloc: Global, which: &Which, registry: D) -> MappingRead<D>
     ensures named { IfOk result.named (IsNamed (meaning D.Disk) which.now registry) }
     ensures why { IfErr result.named (WhyNot (meaning D.Disk) which.now registry result.registry) }

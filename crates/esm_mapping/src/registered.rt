@@ -1,4 +1,4 @@
-// The mapping of the registry with an id.
+// Reading the mapping with an id from the registry.
 ghost use Rattle.std.specs.Prelude.{◌≡◌, None, Some, IfOk, IfErr};
 ghost use Rattle.esm_config.specs.Given.{IsGiven};
 ghost use Rattle.esm_io.specs.Meanings.{disk as meaning};
@@ -18,7 +18,7 @@ use esm_registry::{Mapping, Registry, RegistryOpen};
 use std::alloc::Global;
 use uuid::Uuid;
 
-/// That the registry's file was not opened.
+/// The error for a registry's file that was not opened.
 fn error_of_file(why: OpenError) -> MappingError
     ensures { result ≡ error_of_file why }
 {
@@ -30,7 +30,7 @@ fn error_of_file(why: OpenError) -> MappingError
     }
 }
 
-/// That its payloads are none of a registry's.
+/// The error for payloads that are not a registry's.
 fn error_of_payloads(why: RegistryOpen) -> MappingError
     ensures { result ≡ error_of_payloads why }
 {
@@ -40,7 +40,7 @@ fn error_of_payloads(why: RegistryOpen) -> MappingError
     }
 }
 
-/// The mapping, where it is enabled: a copy of its configuration.
+/// A copy of the mapping's configuration, with its start, if the mapping is enabled.
 fn copy_mapping(alloc: Global, mapping: &Mapping) -> Result<NamedMapping, MappingError>
     requires { IsGiven mapping.now.config }
     ensures named { IfOk result (IsNamedOf (Some mapping.now)) }

@@ -1,10 +1,10 @@
-// Where a mapping starts to read, with the latest position made the moment of its creation.
+// Where a mapping starts to read; the latest position is turned into the moment of its creation.
 ghost use Rattle.std.specs.Prelude.{◌≡◌};
 ghost use Rattle.esm_mapping.specs.Starts.{is_latest, start_after};
 
 use esm_model::Start;
 
-/// Whether it is behind all records that there are.
+/// Whether the start is behind all records that there are.
 pub fn is_latest(start: Start) -> bool
     ensures { result ≡ is_latest start }
 {
@@ -15,7 +15,7 @@ pub fn is_latest(start: Start) -> bool
     }
 }
 
-/// Where a mapping that was created at this moment starts, in milliseconds since 1970.
+/// The start of a mapping that was created at this moment, in milliseconds since 1970.
 pub fn start_after(created: u64, start: Start) -> Start
     ensures { result ≡ start_after created start }
 {

@@ -34,7 +34,7 @@ pub record Fits (limits : Limits) (now : ℕ) (items : List SizedItem) : Type 0 
   pub window : All (λ (item : SizedItem). item.window ≡ first_window items) items
   pub fresh : All (λ (item : SizedItem). is_expired limits.age_ms now item ≡ false) items
 
--- so many of the first items meet the limits, and no longer prefix does
+-- the first `count` items meet the limits, and no longer prefix does
 pub record IsLongestPrefix (limits : Limits) (now : ℕ) (items : List SizedItem) (count : ℕ) : Type 0 where
   pub within : count ≤ length items
   pub fits : Fits limits now (take count items)
@@ -45,7 +45,7 @@ abbrev pub CanBegin : Limits → ℕ → List SizedItem → Type 0
 CanBegin limits now [] = ⊥
 CanBegin limits now (item ∷ items) = (item.bytes ≤ limits.payload) × (is_expired limits.age_ms now item ≡ false)
 
--- the batch has the batch size, or an item stands after it
+-- the batch has the batch size, or an item follows it
 abbrev pub is_full : Limits → List SizedItem → ℕ → Bool
 is_full limits items count = (count == limits.count) || nat_lt count (length items)
 
@@ -53,7 +53,7 @@ is_full limits items count = (count == limits.count) || nat_lt count (length ite
 abbrev pub wait_end : Limits → List SizedItem → ℕ
 wait_end limits items = moment_after (first_came items) limits.window_ms
 
--- why the batch of so many of the first items may begin, or how long it waits
+-- why the batch of the first `count` items may begin, or how long it waits
 abbrev pub why_of : Limits → ℕ → List SizedItem → ℕ → Why
 why_of limits now items count =
     if is_full limits items count then Full

@@ -20,11 +20,11 @@ use Rattle.esm_next.specs.Following.{expiring, next_of}
 use Rattle.esm_next.specs.declared.decision.Decision.{Decision}
 use Rattle.esm_next.specs.declared.decision.Decision.TheVariants as decision
 
--- over all lists of records that go on from those that came
+-- over all lists of records that extend those that came
 abbrev pub OverAll : Ledger → (Setting → Type 0) → Type 0
 OverAll c P = (streams : List Stream) → Extends (setting_of c).streams streams → P (over (setting_of c) streams)
 
--- what the batcher is told
+-- what the batcher is answered
 abbrev pub answer_of : Decision → Next
 answer_of (decision.Call job) = next.Call job
 answer_of (decision.Expire lane places line) = next.Gave (length places)
@@ -67,7 +67,7 @@ Gives s h lane m (decision.Call job) = job.closing ≡ None → 1 ≤ length job
 Gives s h lane m (decision.Expire at places line) = IsExpiry s h lane m at places line
 Gives s h lane m _ = ⊤
 
--- by the rules, which is the first that holds
+-- what is decided is by the first rule that holds
 pub record IsDecided (s : Setting) (h : List Entry) (lane : LaneId) (m : ℕ) (d : Decision) : Type 0 where
   pub answer : answer_of d ≡ next_of s h lane m
   pub gives : Gives s h lane m d

@@ -25,7 +25,7 @@ use Rattle.esm_ledger.specs.Reading.{lane_of_batcher}
 abbrev pub job_of : Setting → List Entry → LaneId → List ℕ → Option ℕ → Job
 job_of s h lane places closing = record { lane = lane; places = places; closing = closing; event = event_of s h lane.shard places closing }
 
--- the places that expire: the longest prefix of the group that is expired, at most so many at once
+-- the places that expire: the longest prefix of the group that is expired, at most `MAX_EXPIRED` at once
 abbrev pub expiring : Setting → List Entry → LaneId → ℕ → List ℕ
 expiring s h lane m = take MAX_EXPIRED (take_while (is_expired s lane.shard m) (group s h lane))
 
@@ -35,7 +35,7 @@ abbrev pub windows_after : ℕ → List ℕ → Entry → List ℕ
 windows_after n before (Gave by shard places fate line (Some state) moment) = if shard == n then state.window ∷ before else before
 windows_after n before _ = before
 
--- the windows of the shard of which the history or the journal told a state
+-- the windows of the shard to which the journal or the history gave a state
 abbrev pub told_windows : Setting → List Entry → ℕ → List ℕ
 told_windows s [] n = map (λ (f : FoundState). f.window) (filter (λ (f : FoundState). f.shard == n) s.states)
 told_windows s (e ∷ h) n = windows_after n (told_windows s h n) e
@@ -85,7 +85,7 @@ next_allowed s h lane m =
     else if nat_lt m (delay_end s h lane) then next.Idle (delay_end s h lane)
     else next_call s h lane m (least (due_windows s h lane.shard))
 
--- a lane without open records finishes where the book is shut and no window is outstanding, and pauses where none is due
+-- a lane without open records finishes if the book is shut and no window is outstanding, and pauses if none is due
 abbrev pub next_quiet : Setting → List Entry → LaneId → ℕ → List ℕ → Next
 next_quiet s h lane m (i ∷ places) = next_allowed s h lane m
 next_quiet s h lane m [] =
@@ -107,7 +107,7 @@ abbrev pub next_in : Setting → List Entry → ℕ → Option LaneId → Next
 next_in s h m None = next_without_lane h m
 next_in s h m (Some lane) = next_of s h lane m
 
--- of the batcher
+-- what the batcher does next
 abbrev pub next_for : Setting → List Entry → ℕ → ℕ → Next
 next_for s h k m = next_in s h m (lane_of_batcher s h k)
 

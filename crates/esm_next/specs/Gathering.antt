@@ -1,4 +1,4 @@
--- What the cut of a batch looks at. Only this crate's proofs cite this.
+-- What the cut of a batch needs to know. Only this crate's proofs cite this.
 use Rattle.std.specs.Prelude.{◌≡◌, ℕ, ◌-◌, ◌≤◌, Bool, true, List, [], length, Option, Some, None, option_map, unwrap_or, slice_index, if◌then◌else◌}
 use Rattle.esm_model.specs.declared.limits.TheConstants.{MAX_EVENT}
 use Rattle.esm_model.specs.Records.{Record}
@@ -21,14 +21,14 @@ use Rattle.esm_next.specs.declared.piece.Why.TheVariants.{Waiting}
 abbrev pub element_bytes : Setting → ℕ → ℕ → ℕ
 element_bytes s n i = unwrap_or (option_map (λ (r : Record). length (record_text s.config r)) (record_at s n i)) 0
 
--- its window, the same for all where there are none
+-- its window; the same for all if no windows are configured
 abbrev pub window_in : Setting → ℕ → ℕ → ℕ
 window_in s n i = if has_windows s.config then window_of s n i else 0
 
 abbrev pub piece_of : Setting → List Entry → ℕ → ℕ → SizedItem
 piece_of s h n i = record { bytes = element_bytes s n i; came = came_moment h n i; arrival = arrival_at s n i; window = window_in s n i }
 
--- what an event says of the window, where windows are configured
+-- what an event says of the window, if windows are configured
 abbrev pub call_in : Setting → List Entry → ℕ → ℕ → Bool → Option WindowCall
 call_in s h n window closing =
     if has_windows s.config
@@ -43,7 +43,7 @@ frame_of s w = length (event_text s.config [] w)
 abbrev pub limits_of : Setting → List Entry → Option WindowCall → Limits
 limits_of s h w = record { count = s.config.batch_size; payload = MAX_EVENT - frame_of s w; window_ms = s.config.window_ms; age_ms = s.config.age_ms; shut = is_shut h }
 
--- the lane's group is these places, of which there is one, and they are fresh or not
+-- these places, at least one, are the lane's group, and whether the first of them is fresh
 pub record IsFrontOf (s : Setting) (h : List Entry) (lane : LaneId) (places : List ℕ) (fresh : Bool) : Type 0 where
   pub group_is : group s h lane ≡ places
   pub fresh_is : is_fresh s h lane.shard (slice_index places 0) ≡ fresh

@@ -25,7 +25,7 @@ use esm_ledger::Ledger;
 use esm_model::{LaneId, MAX_EVENT, OutOfMemory, WindowCall};
 use std::alloc::Global;
 
-/// The call of the batch, or how long it waits. It looks at no more places than the batch size and one more.
+/// Decides the call of the batch, or until when it waits. Looks at no more places than the batch size and one more.
 pub(crate) fn decide_batch(
     alloc: Global,
     ledger: &Ledger,
@@ -62,7 +62,7 @@ pub(crate) fn decide_batch(
     }
 }
 
-/// The start of the record's tumbling window; 0 where no windows are configured.
+/// The start of the record's tumbling window; 0 if no windows are configured.
 fn window_in(ledger: &Ledger, shard: u64, place: u32) -> u64
     requires kept { Keeps ledger.now }
     requires came { place < came_count (past_of ledger.now) shard }
@@ -75,7 +75,7 @@ fn window_in(ledger: &Ledger, shard: u64, place: u32) -> u64
     }
 }
 
-/// How many of these places make the batch whose event says this of its window, and why it may begin.
+/// How many of these places the batch takes, and why it may begin. `window` is what its event says of its window.
 fn cut_front(
     alloc: Global,
     ledger: &Ledger,
@@ -105,7 +105,7 @@ fn cut_front(
     Ok(cut(pieces.as_slice(), &limits, now))
 }
 
-/// The bytes of the record's element in an event, written or not: never so many that an event has no room for it.
+/// The length in bytes of the record's element in an event, without writing it; it fits an event alone.
 fn first_bytes(ledger: &Ledger, shard: u64, place: u32) -> u32
     requires kept { Keeps ledger.now }
     requires bounds { IsWithinBounds ledger.now }
@@ -119,7 +119,7 @@ fn first_bytes(ledger: &Ledger, shard: u64, place: u32) -> u32
     }
 }
 
-/// The limits of a batch whose event says this of its window.
+/// The limits of a batch. `window` is what its event says of its window.
 fn limits(ledger: &Ledger, window: Option<&WindowCall>) -> Limits
     requires kept { Keeps ledger.now }
     requires valid { ForSome (option_copied window) IsValidWindowCall }
@@ -135,7 +135,7 @@ fn limits(ledger: &Ledger, window: Option<&WindowCall>) -> Limits
     }
 }
 
-/// What the cut looks at of the records at the places.
+/// What the cut needs to know of the records at the places.
 fn pieces(
     alloc: Global,
     ledger: &Ledger,

@@ -6,8 +6,8 @@ use esm_model::{Job, LaneId, Places, Text};
 pub enum Decision {
     /// A call begins: of a batch, or the final one of a tumbling window.
     Call(Job),
-    /// Records at the front of the lane are older than the maximum record age; the line is for the failure destination,
-    /// where one is set.
+    /// Records at the front of the lane are older than the maximum record age; the line is for the failure destination, if
+    /// one is set.
     Expire {
         lane: LaneId,
         places: Places,

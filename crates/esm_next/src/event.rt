@@ -44,7 +44,7 @@ pub(crate) fn job(
     })
 }
 
-/// The records at the places, in order, each of which shares its texts with the ledger's.
+/// Copies of the records at the places, in order, which share their texts with the ledger's.
 fn records_of(
     alloc: Global,
     ledger: &Ledger,
@@ -90,7 +90,7 @@ pub(crate) fn copied(alloc: Global, places: &[u32]) -> Result<Places, OutOfMemor
     Ok(Places::from_vec(copy))
 }
 
-/// What an event says of the window, where windows are configured.
+/// What an event says of the window; `None` if no windows are configured.
 #[tactic(auto, using(crate::proofs::Bounds::call_off, crate::proofs::Bounds::call_on, crate::proofs::Bounds::call_valid))]
 pub(crate) fn window_call_of(
     alloc: Global,
@@ -117,7 +117,7 @@ pub(crate) fn window_call_of(
     }))
 }
 
-/// A window begins with the state `{}`.
+/// A copy of the window's state; `{}` if it has none yet.
 fn state_copy(alloc: Global, state: Option<&Bytes>) -> Result<Bytes, OutOfMemory>
     ensures { IfOk result (λ text. text ≡ unwrap_or (option_copied state.entry) (codes "{}")) }
 {

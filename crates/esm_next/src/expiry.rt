@@ -22,7 +22,7 @@ use esm_ledger::Ledger;
 use esm_model::{Failure, LaneId, MAX_EXPIRED, OutOfMemory, Record, Seq, Text};
 use std::alloc::Global;
 
-/// How many of the first places expire at the moment, at most 10,000. It looks at these places and at one more.
+/// How many of the first places expire at the moment, at most 10,000. Looks at these places and one more.
 pub(crate) fn expired_count(ledger: &Ledger, shard: u64, places: &[u32], now: u64) -> usize
     requires kept { Keeps ledger.now }
     requires open { AreOpen (setting_of ledger.now) (past_of ledger.now) shard places.now }
@@ -63,7 +63,7 @@ fn is_older(age_ms: Option<u64>, item: &Record, now: u64) -> bool
     }
 }
 
-/// These places of the lane expire.
+/// Decides that these places of the lane expire.
 pub(crate) fn expire(
     alloc: Global,
     ledger: &Ledger,
@@ -90,7 +90,7 @@ pub(crate) fn expire(
     })
 }
 
-/// The line for the failure destination, where one is set.
+/// The line for the failure destination; `None` if none is set.
 fn line(
     alloc: Global,
     ledger: &Ledger,

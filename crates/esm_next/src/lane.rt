@@ -43,7 +43,7 @@ pub(crate) fn decide_lane(
     }
 }
 
-/// Where no record of the lane is open.
+/// Decides for a lane without open records.
 fn decide_empty(
     alloc: Global,
     ledger: &Ledger,
@@ -89,7 +89,7 @@ pub(crate) fn pause(now: u64) -> Decision
     }
 }
 
-/// Where the lane has open records, of which the first ones are these.
+/// Decides for a lane with open records, of which the first ones are these.
 fn decide_front(
     alloc: Global,
     ledger: &Ledger,
@@ -113,7 +113,7 @@ fn decide_front(
     decide_open(alloc, ledger, lane, places, fresh, now)
 }
 
-/// Where the lane has open records, the first of which is not expired.
+/// Decides for a lane with open records, of which the first is not expired.
 fn decide_open(
     alloc: Global,
     ledger: &Ledger,
@@ -137,7 +137,7 @@ fn decide_open(
     }
 }
 
-/// Where no window is due.
+/// Decides for a lane of whose shard no window is due.
 fn decide_batched(
     alloc: Global,
     ledger: &Ledger,
@@ -161,7 +161,7 @@ fn decide_batched(
     }
 }
 
-/// Where this window is the least one that is due.
+/// Decides for a lane of whose shard this is the least window that is due.
 fn decide_due(
     alloc: Global,
     ledger: &Ledger,
@@ -183,7 +183,7 @@ fn decide_due(
     }
 }
 
-/// Where all calls allowed were made, or the lane's delay is not over.
+/// What holds the lane back: all calls allowed were made, or its delay is not over. `None` if nothing does.
 #[tactic(auto, using(crate::proofs::Lanes::spent_is, crate::proofs::Lanes::waits_is, crate::proofs::Lanes::free_is))]
 fn held_back(ledger: &Ledger, lane: LaneId, now: u64) -> Option<Decision>
     requires kept { Keeps ledger.now }

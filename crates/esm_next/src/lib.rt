@@ -1,5 +1,5 @@
-//! What a batcher of a stream does next: the first rule that holds, with the call's event or the failure line; and the cut of
-//! a batch: how many of a lane's items the next call takes, and whether it may begin.
+//! What a batcher of a stream does next: the first rule that holds, with the call's event or the failure line; and the cut
+//! of a batch: how many of a lane's items the next call takes, and whether it may begin.
 //! It reads a ledger and changes nothing. No device, clock or thread.
 #![tactic(auto)]
 

@@ -1,4 +1,4 @@
-// Deciding what the batcher of a lane does next, by the first rule that holds.
+// Decides what the batcher of a lane does next, by the first rule that holds.
 ghost use Rattle.std.specs.Prelude.{◌≡◌, ◌≤◌, ◌++◌, Some, false, IfOk, if◌then◌else◌};
 ghost use Rattle.esm_model.specs.declared.lane.LaneId.{LaneId};
 ghost use Rattle.esm_model.specs.declared.moment.TheConstants.{MAX_MOMENT};
@@ -20,15 +20,15 @@ use std::alloc::Global;
 /// What the batcher does next, by the first rule that holds (Lambda Developer Guide, event source mappings for Kinesis:
 /// batching behavior, tumbling windows, error handling). At the moment `now`, in milliseconds:
 /// 1. Expired records at the front of the lane get their fate.
-/// 2. Where the input ended, no record of the lane is open and no window of its shard is outstanding, it is finished.
-/// 3. Where no record is open and no window is due, it pauses for 20 milliseconds.
-/// 4. Where all calls allowed were made, they are spent.
+/// 2. If the input ended, no record of the lane is open and no window of its shard is outstanding, it is finished.
+/// 3. If no record is open and no window is due, it pauses for 20 milliseconds.
+/// 4. If all calls allowed were made, they are spent.
 /// 5. After a failure the lane waits until its delay is over.
 /// 6. A window that is due is closed by a call without records.
 /// 7. A batch without failed tries waits until it is full or cut, the input ended, or its batching window is over.
 /// 8. The batch is called.
-/// It looks at no more places than the batch size and one more, or those that expire and one more. `OutOfMemory` where
-/// memory is wanting for what is decided.
+/// Looks at no more places than the batch size and one more, or those that expire and one more. Returns `OutOfMemory` if
+/// there is no memory for what is decided.
 pub fn decide_next(
     alloc: Global,
     ledger: &Ledger,
@@ -56,7 +56,7 @@ pub fn decide_next(
     }
 }
 
-/// Where the shard of the batcher's lane has not come.
+/// What a batcher does while its lane's shard has not come.
 fn rest(shut: bool, now: u64) -> Decision
     requires { now ≤ MAX_MOMENT }
     ensures { result ≡ (if shut then decision.Finished else decision.Idle (moment_after now 20)) }

@@ -1,6 +1,6 @@
-/// What the cut looks at of a record or a message: the bytes of its element in the event, the moment at which it came
-/// to the mapping, its arrival, and the start of its tumbling window (the same for all where there are no windows).
-/// Moments are in milliseconds since 1970.
+/// What the cut needs to know of a record or a message: the bytes of its element in the event, the moment at which it came
+/// to the mapping, its arrival, and the start of its tumbling window (the same for all if there are no windows). Moments are
+/// in milliseconds since 1970.
 #[derive(Clone, Copy, Debug, PartialEq, Eq)]
 pub struct SizedItem {
     pub bytes: u32,
@@ -27,7 +27,7 @@ pub struct Limits {
 /// Why a batch may begin, or until which moment it waits.
 #[derive(Clone, Copy, Debug, PartialEq, Eq)]
 pub enum Why {
-    /// It has as many items as it may, or an item stands after it.
+    /// It has as many items as it may, or an item follows it.
     Full,
     /// Its batching window is over.
     Waited,
@@ -37,7 +37,7 @@ pub enum Why {
     Waiting { until: u64 },
 }
 
-/// A batch: so many of the first items.
+/// A batch: how many of the first items it has, and why it may begin or waits.
 #[derive(Clone, Copy, Debug, PartialEq, Eq)]
 pub struct Cut {
     pub count: u32,

@@ -1,4 +1,4 @@
--- What the end of a call calls for, as it is handed out: entries without their lane and their moment. This product's own.
+-- What the end of a call requires, as it is returned: entries without their lane and their moment. This product's own.
 use Rattle.std.specs.Prelude.{ℕ, ◌+◌, List, [], ◌∷◌, length, Option, Some, None}
 use Rattle.std.specs.Option.{option_or}
 use Rattle.std.specs.Prelude.{option_map}
@@ -20,7 +20,7 @@ abbrev pub given_by : Due → ℕ
 given_by (Gave places fate line state) = length places
 given_by _ = 0
 
--- and by all of them
+-- how many get one by all of them
 abbrev pub given_count : List Due → ℕ
 given_count [] = 0
 given_count (d ∷ ds) = given_by d + given_count ds
@@ -34,7 +34,7 @@ abbrev pub window_by : Due → Option ℕ
 window_by (Gave places fate line state) = window_in state
 window_by _ = None
 
--- and of the first of them that gives one
+-- the window of the first state that they give, if one gives a state
 abbrev pub window_given : List Due → Option ℕ
 window_given [] = None
 window_given (d ∷ ds) = option_or (window_by d) (window_given ds)

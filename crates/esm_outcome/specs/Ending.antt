@@ -1,4 +1,4 @@
--- The end of a call of a ledger's history, over all lists of records that go on from the ledger's own. This product's own.
+-- The end of a call of a ledger's history, over all lists of records that extend the ledger's own. This product's own.
 use Rattle.std.specs.Prelude.{◌≡◌, ℕ, List, [], ◌∷◌, map, Some}
 use Rattle.esm_model.specs.declared.lane.LaneId.{LaneId}
 use Rattle.esm_model.specs.Records.{Record}
@@ -14,11 +14,11 @@ use Rattle.esm_ledger.specs.Ledger.{LegalOver}
 use Rattle.esm_outcome.specs.declared.outcome.Due.{Due}
 use Rattle.esm_outcome.specs.Dues.{due_entry}
 
--- each record is valid, and one of the shard in whose list it stands
+-- each record is valid, and is of the shard in whose list it is
 abbrev pub AreValidRecords : Setting → Type 0
 AreValidRecords s = (n i : ℕ) (r : Record) → record_at s n i ≡ Some r → (r.shard ≡ n) × IsValidRecord r
 
--- each open record passes the filter and no lane is owed anything, over all lists that go on
+-- each open record passes the filter and no lane is owed anything, over all lists of records that extend the setting's own
 abbrev pub SettledOver : Setting → List Entry → Type 0
 SettledOver s h = (streams : List Stream) → Extends s.streams streams → Settled (over s streams) h
 
@@ -26,7 +26,7 @@ SettledOver s h = (streams : List Stream) → Extends s.streams streams → Sett
 abbrev pub IsVerdictOver : Setting → List Entry → LaneId → Reply → Verdict → Type 0
 IsVerdictOver s h lane reply v = (streams : List Stream) → Extends s.streams streams → v ≡ verdict_after (over s streams) h lane reply
 
--- they are what the end calls for, in order, over all of them
+-- they are what the end requires, in order, over all of them
 abbrev pub AreOwedOver : Setting → List Entry → LaneId → Reply → ℕ → List Due → Type 0
 AreOwedOver s h lane reply m dues =
     (streams : List Stream) → Extends s.streams streams → map (due_entry lane m) dues ≡ owed (over s streams) (Ended lane reply m ∷ h) lane

@@ -1,4 +1,4 @@
--- The parts of what the end of a call calls for, as they are found one by one. Only this crate's proofs cite this.
+-- The parts of what the end of a call requires, as they are found one by one. Only this crate's proofs cite this.
 use Rattle.std.specs.Prelude.{◌≡◌, ℕ, ◌+◌, true, List, [], ◌∷◌, ◌++◌, drop, codes, Option, Some, None, if◌then◌else◌}
 use Rattle.esm_model.specs.Records.{Record}
 use Rattle.esm_model.specs.declared.lane.LaneId.{LaneId}
@@ -37,18 +37,18 @@ abbrev pub text_in : Reply → StateRead → List ℕ
 text_in (Answered status error body) state = span_bytes body state
 text_in _ state = codes "{}"
 
--- the state that the records leave to their window, where some succeeded and windows are configured
+-- the state that the records give their window, if some succeeded and windows are configured
 abbrev pub success_state : Setting → ℕ → List ℕ → Option ℕ → List ℕ → Option WindowState
 success_state s n [] closing text = None
 success_state s n (i ∷ places) closing text =
     if has_windows s.config then Some (record { window = window_of_call s n (i ∷ places) closing; text = text }) else None
 
--- the records that succeeded, where there are any
+-- the records that succeeded, if there are any
 abbrev pub success_dues : List ℕ → Option WindowState → List Due
 success_dues [] state = []
 success_dues (i ∷ places) state = Gave (i ∷ places) Succeeded None state ∷ []
 
--- the records that are given up, where there are any
+-- the records that are given up, if there are any
 abbrev pub give_up_dues : List ℕ → Option (List ℕ) → List Due
 give_up_dues [] line = []
 give_up_dues (i ∷ places) line = Gave (i ∷ places) Exhausted line None ∷ []
@@ -70,12 +70,12 @@ rest_dues (rest.Split k) places closing tries line = []
 rest_dues rest.Counted places closing tries line = tried_dues places closing tries
 rest_dues rest.Exhausted places closing tries line = give_up_dues places line ++ close_dues closing
 
--- how many of so many records are given up
+-- how many of `left` records are given up
 abbrev pub given_up : Rest → ℕ → ℕ
 given_up rest.Exhausted left = left
 given_up _ left = 0
 
--- the records of the lane's running call behind those that succeeded, in order
+-- the records of the lane's running call after those that succeeded, in order
 pub record IsRest (c : Ledger) (lane : LaneId) (left : List ℕ) : Type 0 where
   pub runs : is_running (past_of c) lane ≡ true
   pub succeeded : ℕ

@@ -1,4 +1,4 @@
--- What a ledger needs before the end of a call and what it calls for can be added. This product's own.
+-- What a ledger needs before the end of a call, and the entries that it requires, can be added. This product's own.
 use Rattle.std.specs.Prelude.{◌≡◌, ◌≢◌, ℕ, true, List, [], ◌∷◌, Option, Some, None, IfSome, ⊤}
 use Rattle.esm_model.specs.declared.lane.LaneId.{LaneId}
 use Rattle.esm_model.specs.declared.entry.Entry.{Entry}
@@ -15,7 +15,7 @@ pub record IsPrepared (c : Ledger) (n w : ℕ) : Type 0 where
   pub state : HasState c n w
   pub tries : (x : ShardLedger) → IsAt c n x → has_entry x.windows.tries w ≡ true
 
--- where the window is prepared, a ledger with this history can take the end of the lane's call
+-- if the window is prepared, a ledger with this history can take the end of the lane's call
 abbrev pub PreparesEnd : List Entry → LaneId → Option ℕ → Type 0
 PreparesEnd h lane window = (c : Ledger) → Keeps c → past_of c ≡ h → IfSome window (IsPrepared c lane.shard) → IsClosingPrepared c lane
 
@@ -24,7 +24,7 @@ abbrev pub IsOfWindow : Option ℕ → Due → Type 0
 IsOfWindow window (Gave places fate line state) = (fate ≢ Expired) × IfSome state (λ x. window ≡ Some x.window)
 IsOfWindow window _ = ⊤
 
--- and none behind the first of them gives a state
+-- and none after the first of them gives a state
 abbrev pub AreOfWindow : Option ℕ → List Due → Type 0
 AreOfWindow window [] = ⊤
 AreOfWindow window (d ∷ ds) = IsOfWindow window d × AreOfWindow None ds

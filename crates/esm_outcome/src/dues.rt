@@ -1,4 +1,4 @@
-//! The entries that bring what a verdict calls for.
+//! The entries that a verdict requires.
 ghost use Rattle.std.specs.Prelude.{◌≡◌, ◌≤◌, ◌<◌, ◌+◌, ◌++◌, length, slice_index, unwrap_or, IfOk, OnOk};
 ghost use Rattle.std.specs.Option.{option_or};
 ghost use Rattle.esm_model.specs.Entries.{came_count};
@@ -16,7 +16,7 @@ use esm_model::{
 };
 use std::alloc::Global;
 
-/// The state that the records which succeeded leave to their window, where windows are configured.
+/// The state that the records that succeeded give their window; `None` if none succeeded or no windows are configured.
 pub fn state_of(
     alloc: Global,
     ledger: &Ledger,
@@ -112,7 +112,8 @@ pub fn given_of(rest: Rest, good: &[u32], left: &[u32]) -> u32
     }
 }
 
-/// All that a verdict calls for: of the records that succeeded, and then of the rest. `tries` are those before the end.
+/// All entries that a verdict requires: for the records that succeeded, and then for the rest. `tries` are those before the
+/// end.
 pub fn dues_of(
     alloc: Global,
     rest: Rest,

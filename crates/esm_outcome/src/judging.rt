@@ -17,7 +17,7 @@ use esm_model::{Answer, LaneId, OutOfMemory, Record, Reply, Seq, StateRead, Verd
 use esm_verdict::{Call, judge, read_stream};
 use std::alloc::Global;
 
-/// What the reply to a call says.
+/// How the reply to a call is judged.
 #[derive(Clone, Copy, Debug)]
 pub struct Judged {
     /// The failed tries of the call before it ended.
@@ -82,8 +82,8 @@ fn front_tries(ledger: &Ledger, lane: LaneId, places: &[u32]) -> u32
     }
 }
 
-/// How the reply to the call of these records, or to the final call of the window, is read. Their sequence numbers have a
-/// say only where a batch's item failures are reported.
+/// How the reply to the call of these records, or to the final call of the window, is read. Their sequence numbers matter
+/// only for a batch whose item failures are reported.
 fn answer_of(
     alloc: Global,
     ledger: &Ledger,
@@ -154,7 +154,7 @@ fn sequences(
     Ok(batch)
 }
 
-/// A copy of the record's sequence number goes behind the others.
+/// Appends a copy of the record's sequence number.
 fn push_sequence(
     batch: &mut Vec<Seq>,
     alloc: Global,

@@ -1,6 +1,5 @@
-//! What the end of a call calls for: the verdict on it, and the entries that bring it, complete but for their moment.
-//! Pure: a ledger is read and nothing of it changes.
-//! No device, clock or thread.
+//! What the end of a call requires: the verdict on it, and the entries that it requires, complete but for their moment.
+//! Reads a ledger and changes nothing of it. No device, clock or thread.
 #![tactic(auto)]
 
 mod dues;

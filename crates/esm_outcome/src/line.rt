@@ -18,8 +18,8 @@ use esm_ledger::Ledger;
 use esm_model::{Failure, LaneId, OutOfMemory, Reply, Response, Rest, Seq, Text};
 use std::alloc::Global;
 
-/// The line for the records of the lane's running call that did not succeed, where they are given up at the moment and a
-/// destination is set.
+/// The line for the records of the lane's running call that did not succeed; `None` unless they are given up and a
+/// destination is set. `now` is the moment of the end, in milliseconds.
 pub fn line_of(
     alloc: Global,
     ledger: &Ledger,
@@ -86,7 +86,7 @@ fn told_line(
     failure_text(alloc, &ledger.config, &failure)
 }
 
-/// What the line tells: the answer is that of the call that ends.
+/// What the line says; the answer is that of the call that ends.
 fn failure_of(
     alloc: Global,
     ledger: &Ledger,
@@ -148,7 +148,7 @@ fn edge_of(alloc: Global, ledger: &Ledger, shard: u64, place: u32) -> Result<Edg
     }
 }
 
-/// What a reply answers; `None` where it is lost or garbled.
+/// The answer of a reply; `None` if it was lost or garbled.
 fn response_in(reply: &Reply) -> Option<Response>
     ensures { result ≡ response_in reply.now }
 {

@@ -1,4 +1,4 @@
-// What the end of a lane's call calls for: fates, counted tries and the close of a tumbling window.
+// What the end of a lane's call requires: fates, counted tries and the close of a tumbling window.
 ghost use Rattle.std.specs.Prelude.{◌≡◌, ◌≤◌, ◌∷◌, true, map, IfOk, vec_len};
 ghost use Rattle.std.specs.Option.{option_or};
 ghost use Rattle.esm_model.specs.declared.moment.TheConstants.{MAX_MOMENT};
@@ -17,7 +17,7 @@ use esm_ledger::Ledger;
 use esm_model::{Fate, LaneId, OutOfMemory, Places, Reply, Text, Verdict, WindowState};
 use std::alloc::Global;
 
-/// An entry that the end of a call calls for, without its lane and its moment.
+/// An entry that the end of a call requires, without its lane and its moment.
 #[derive(Drop, Debug)]
 pub enum Due {
     /// The records at the places get the fate, with the line for the failure destination and the new state of their
@@ -40,7 +40,7 @@ pub enum Due {
     },
 }
 
-/// What the end of a call calls for.
+/// What the end of a call requires.
 #[derive(Drop, Debug)]
 pub struct Outcome {
     pub verdict: Verdict,
@@ -53,9 +53,8 @@ pub struct Outcome {
     pub window: Option<u64>,
 }
 
-/// What the end of the lane's call calls for at the moment `now`, in milliseconds, where the reply is this. (Lambda
-/// Developer Guide, error handling for Kinesis: the records that succeeded, retries, bisecting, failure destinations;
-/// tumbling windows.)
+/// What the end of the lane's call with this reply requires, at the moment `now` in milliseconds. (Lambda Developer Guide,
+/// error handling for Kinesis: the records that succeeded, retries, bisecting, failure destinations; tumbling windows.)
 pub fn outcome_of(
     alloc: Global,
     ledger: &Ledger,
@@ -69,7 +68,7 @@ pub fn outcome_of(
     requires runs { is_running (past_of ledger.now) lane ≡ true }
     requires later { last_moment (past_of ledger.now) ≤ now }
     requires moment { now ≤ MAX_MOMENT }
-    // what the end calls for
+    // what the end requires
     ensures verdict { IfOk result (λ o. IsVerdictOver (setting_of ledger.now) (past_of ledger.now) lane reply.now o.verdict) }
     ensures dues { IfOk result (λ o. AreOwedOver (setting_of ledger.now) (past_of ledger.now) lane reply.now now o.dues.items) }
     ensures few { IfOk result (λ o. vec_len o.dues ≤ 2) }

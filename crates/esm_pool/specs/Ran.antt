@@ -13,7 +13,7 @@ use Rattle.esm_model.specs.Coming.{AreCome, AreSomeCome}
 use Rattle.esm_pool.specs.declared.running.RunEnd.{RunEnd}
 use Rattle.esm_pool.specs.declared.running.RunEnd.TheVariants.{Finished, Spent, Down}
 
--- what the input was made with stays
+-- the parameters with which the input was made stay
 pub record IsSameInput {S : Type 0} (before after : InputState S) : Type 0 where
   pub kind : after.kind ≡ before.kind
   pub factor : after.factor ≡ before.factor
@@ -24,35 +24,35 @@ pub record IsSameInput {S : Type 0} (before after : InputState S) : Type 0 where
 abbrev pub HasLeftOne : (left : Setup → List Told → ℕ → Type 0) → Setup → List Told → (batchers : ℕ) → Type 0
 HasLeftOne left setup h batchers = (k : ℕ) × (k < batchers) × left setup h k
 
--- all batchers below the number have finished; or all calls allowed were made; or the book is down
+-- `Finished`: all batchers below the number have finished; `Spent`: all calls allowed were made; `Down`: the book is down
 abbrev pub EndsSo : (finished : Setup → List Told → ℕ → Type 0) (spent : Setup → List Told → Type 0) → Setup → List Told → (mark : Bool) → (batchers : ℕ) → RunEnd → Type 0
 EndsSo finished spent setup h mark batchers Finished = (mark ≡ false) × ((k : ℕ) → k < batchers → finished setup h k)
 EndsSo finished spent setup h mark batchers Spent = (mark ≡ false) × spent setup h
 EndsSo finished spent setup h mark batchers Down = mark ≡ true
 
--- all items that were handed out of an input that was read to an end came, and the end was noted
+-- the input was read to an end: all items that it returned arrived, and the end was noted
 pub record AllCame {S : Type 0} (i : InputState S) (came : ℕ → List Item) (h : List Told) : Type 0 where
   pub items : AreCome came (handed i)
   pub ended : IsSome i.end
   pub shut : is_shut (entries_told h) ≡ true
 
--- all items that were handed out of an input that had not ended, and does not tell its bytes, came; the end was noted, since
--- all calls allowed were made
+-- the input had not ended and does not show its bytes: all items that it returned arrived, and the end was noted because all
+-- calls allowed were made
 pub record IsLeftOff {S : Type 0} (left : S → Option (List ℕ)) (i : InputState S) (came : ℕ → List Item) (h : List Told) : Type 0 where
   pub items : AreCome came (handed i)
   pub going : i.end ≡ None
   pub untold : left i.source ≡ None
   pub shut : is_shut (entries_told h) ≡ true
 
--- the items of the input that came: all of them; or all that were handed out until all calls allowed were made; or the first
--- of those that were handed out where the book went down
+-- the items of the input that arrived: all of them; or all that it returned until all calls allowed were made; or a prefix
+-- of those that it returned if the book went down
 abbrev pub CameSo : {S : Type 0} → (left : S → Option (List ℕ)) → InputState S → (came : ℕ → List Item) → List Told → RunEnd → Type 0
 CameSo left i came h Finished = AllCame i came h
 CameSo left i came h Spent = AllCame i came h ⊎ IsLeftOff left i came h
 CameSo left i came h Down = AreSomeCome came (handed i)
 
--- The change is of the first item of a list that differs: of the items that were handed out all before the list had come, the
--- history being the first part of what it is now, and the list is next.
+-- The change is of the first item of a list that differs: of the items that the input returned, all before the list had
+-- arrived, when the history was a prefix of what it is now, and the list came next.
 pub record IsChangeOf {S : Type 0} (items : List Told → ℕ → List Item) (differs : Setup → List Told → List Item → Change → Type 0) (setup : Setup) (h : List Told) (i : InputState S) (change : Change) : Type 0 where
   pub before : List Told
   pub later : List Told
@@ -64,8 +64,8 @@ pub record IsChangeOf {S : Type 0} (items : List Told → ℕ → List Item) (di
   pub came : AreCome (items before) front
   pub differs_so : differs setup before list change
 
--- Want of memory came: these bytes were read, the items of their lines came, or the first of them, and more bytes may have
--- been read after them.
+-- Memory ran out: these bytes were read, the items of their lines or a prefix of them arrived, and more bytes may have been
+-- read after them.
 pub record IsCut {S : Type 0} (left : S → Option (List ℕ)) (i : InputState S) (came : ℕ → List Item) : Type 0 where
   pub bytes : List ℕ
   pub more : List ℕ

@@ -16,7 +16,7 @@ use esm_workers::{show, watched};
 use std::alloc::Global;
 use std::sync::Wait;
 
-/// Why the reader hands on no more, though there is more to read.
+/// Why the reader passes on no more items, though there is more to read.
 #[derive(Drop, Debug)]
 pub enum Stop {
     /// The book is down.
@@ -37,7 +37,7 @@ impl From<OutOfMemory> for Stop {
     }
 }
 
-/// Why the reader stops where its list was refused so.
+/// Returns why the reader stops if its list was refused for this reason.
 fn stopped(came: Result<(), CameError>) -> Result<(), Stop>
     ensures { result ≡ stop_of came }
 {
@@ -48,7 +48,7 @@ fn stopped(came: Result<(), CameError>) -> Result<(), Stop>
     }
 }
 
-/// Items come to the book of the turn.
+/// Brings the items to the book, at the turn.
 fn note<R: Wait, B: Pooled, C: Clock>(
     rt: &R,
     alloc: Global,
@@ -81,7 +81,7 @@ fn note<R: Wait, B: Pooled, C: Clock>(
     stopped(came)
 }
 
-/// Hands the items on, in lists of at most 10,000.
+/// Passes the items on, in lists of at most 10,000.
 pub(crate) fn hand_on<R: Wait, B: Pooled, C: Clock>(
     rt: &R,
     alloc: Global,
@@ -114,8 +114,8 @@ pub(crate) fn hand_on<R: Wait, B: Pooled, C: Clock>(
     note(rt, alloc, turn, seat, rest, clock)
 }
 
-/// Why the reader that waits for more hands on no more: the book is down, or all calls allowed were made. Where neither is so
-/// it goes on.
+/// Returns why the reader that waits for more stops: the book is down, or all calls allowed were made. Otherwise it
+/// continues.
 fn stop_at<B: Pooled>(book: &B) -> Result<(), Stop>
     ensures stop { IfErr result (IsStopAt B.spent (B.setup book.now) (B.history book.now) (B.mark book.now)) }
     ensures goes_on { OnOk result (MayGoOn B.spent (B.setup book.now) (B.history book.now) (B.mark book.now)) }
@@ -129,7 +129,7 @@ fn stop_at<B: Pooled>(book: &B) -> Result<(), Stop>
     Ok(())
 }
 
-/// Looks whether the reader that waits for more goes on: the book is up, and not all calls allowed were made.
+/// Checks whether the reader that waits for more continues: the book is up, and not all calls allowed were made.
 pub(crate) fn look<R: Wait, B: Pooled, C: Clock>(
     rt: &R,
     turn: &Turn<B>,
@@ -154,7 +154,7 @@ pub(crate) fn look<R: Wait, B: Pooled, C: Clock>(
     stop
 }
 
-/// The end of the input is noted in the book of the turn, where it is not down.
+/// Notes the end of the input in the book, at the turn, unless the book is down.
 pub(crate) fn note_end<R: Wait, B: Pooled, C: Clock>(
     rt: &R,
     turn: &Turn<B>,

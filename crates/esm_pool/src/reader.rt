@@ -1,4 +1,4 @@
-// The reader of a book's input: what it works with, and its work.
+// The reader of a book's input.
 ghost use Rattle.std.specs.Prelude.{◌≡◌, ℕ, [], None, true, false, IfErr, OnOk, OnErr, IsErrOf, IsSome};
 ghost use Rattle.esm_model.specs.Books.{entries_told};
 ghost use Rattle.esm_model.specs.Entries.{is_shut};
@@ -19,7 +19,8 @@ use std::alloc::Global;
 use std::sync::Wait;
 use std::thread::Threads;
 
-/// How long the reader waits for more of the input before it looks again whether it goes on, in milliseconds. This product's own.
+/// How long the reader waits for more of the input before it checks again whether to go on, in milliseconds. This product's
+/// own.
 const PATIENCE: u64 = 1_000;
 
 /// What reads a book's input.
@@ -28,15 +29,15 @@ pub struct Reader<S: Source> {
     pub input: Input<S>,
 }
 
-/// Tells what holds of every input.
+/// States what holds of every input. Does nothing.
 fn stands<S: Source>(input: &Input<S>)
     ensures { input.now.failed ≡ false → IsInput S.faults S.left input.now }
 {
     let _end = input.end();
 }
 
-/// Reads the input to its end and hands its items on, piece by piece. Where no more of it is there it looks whether it goes on,
-/// and then waits for a second at most: so it looks between pieces, and once a second while none comes.
+/// Reads the input to its end and passes its items on, piece by piece. If no more of it is there yet, it checks whether to
+/// go on, and then waits for at most a second: so it checks between pieces, and once a second while none arrives.
 fn read_on<R: Threads + Wait + Sync, B: Pooled, S: Source, C: Clock>(
     rt: &R,
     alloc: Global,
@@ -55,7 +56,7 @@ fn read_on<R: Threads + Wait + Sync, B: Pooled, S: Source, C: Clock>(
     // The seat.
     ensures seated { IsSeated B.author B.may_follow C.gave turn.now 0 seat.new }
     ensures going { is_shut (entries_told seat.new.seen) ≡ false }
-    // What came.
+    // What arrived.
     ensures came { OnOk result (AreCome (B.items seat.new.seen) (handed input.new)) }
     ensures end { OnOk result (IsSome input.new.end) }
     ensures unchanged { OnOk result (seat.new.change ≡ None) }
@@ -87,7 +88,7 @@ fn read_on<R: Threads + Wait + Sync, B: Pooled, S: Source, C: Clock>(
     unreachable!()
 }
 
-/// Whether want of memory ended the reading.
+/// Whether the reading ended because memory ran out.
 fn memory_of(read: Result<(), Stop>) -> Result<(), OutOfMemory>
     ensures long { OnOk result (IsErrOf read Stop.OutOfMemory → ⊥) }
     ensures short { OnErr result (IsErrOf read Stop.OutOfMemory) }

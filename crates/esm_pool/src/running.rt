@@ -1,4 +1,4 @@
-// A run of a book, its reader and its batchers as threads.
+// A run of a book, with its reader and its batchers as threads.
 ghost use Rattle.std.specs.Prelude.{◌≡◌, ◌⊎◌, ◌+◌, ◌<◌, ◌≤◌, ℕ, [], Some, None, true, false, length, is_err, IfOk, OnOk, OnErr, Ok};
 ghost use Rattle.esm_model.specs.declared.book.Change.{Change};
 ghost use Rattle.esm_model.specs.declared.limits.TheConstants.{MAX_LANES};
@@ -25,9 +25,9 @@ use std::thread::Threads;
 pub enum RunEnd {
     /// The input has ended, and nothing is left for any batcher.
     Finished,
-    /// All calls allowed were made, and something is left, or the input, which does not tell its bytes, had not ended.
+    /// All calls allowed were made, and something is left, or the input, which does not show its bytes, had not ended.
     Spent,
-    /// The book is down; it tells why.
+    /// The book is down, and says why.
     Down,
 }
 
@@ -39,8 +39,8 @@ pub struct Ran<B, S: Source, F> {
     pub callers: Vec<F>,
 }
 
-/// How the run ended, over the book that the threads left; whether the reader left its input before the end decides with it. It
-/// asks no batcher.
+/// Returns how the run ended, by the book that the threads left and by whether the reader left its input before the end. It
+/// asks no batcher. `OutOfMemory` if an allocation failed when the book looked for what is left.
 fn end_of<B: Pooled>(book: &B, batchers: u32, left_off: bool) -> Result<RunEnd, OutOfMemory>
     requires batchers { (0 < batchers) × (batchers ≤ MAX_LANES) }
     requires shut { B.mark book.now ≡ false → is_shut (entries_told (B.history book.now)) ≡ true }
@@ -65,11 +65,11 @@ fn end_of<B: Pooled>(book: &B, batchers: u32, left_off: bool) -> Result<RunEnd, 
     }
 }
 
-/// Reads the input and hands its items to the book, in lists of at most 10,000, and has so many batchers call, caller `k` for
-/// batcher `k`, all as threads; with `read_first` the batchers begin once the input was read. The run ends when nothing is
-/// left, when all calls allowed were made, or when the book is down. Where all calls allowed were made while more is awaited of
-/// an input that does not tell its bytes, its end is noted and nothing more is read. `name` is the function's. Want of memory
-/// ends the run at any point.
+/// Reads the input and passes its items to the book, in lists of at most 10,000, and has `batchers` batchers call, caller
+/// `k` for batcher `k`, all as threads. With `read_first` the batchers begin once the input was read. The run ends when
+/// nothing is left, when all calls allowed were made, or when the book is down. If all calls allowed were made while more is
+/// awaited of an input that does not show its bytes, its end is noted and nothing more is read. `name` is the function's.
+/// `OutOfMemory` may end the run at any point.
 pub fn run_book<
     R: Threads + Wait + Sync,
     B: Pooled + Send,
@@ -95,14 +95,14 @@ pub fn run_book<
     requires callers { length callers.items ≡ MAX_LANES }
     requires batchers { (0 < batchers) × (batchers ≤ MAX_LANES) }
     requires given { (m : ℕ) → C.gave m ≡ true → B.given m ≡ true }
-    // What the book tells.
+    // What the book says.
     ensures setup { B.setup result.book ≡ B.setup book }
     ensures legal { IsLegal (B.may_follow (B.setup book)) (B.history result.book) }
     ensures moments { AllGiven C.gave [] (B.history result.book) }
     ensures called { HaveCalled B.calls B.rests B.runs (outside C.gave F.sends F.log) (B.setup book) (B.history result.book)
         (is_err result.end) batchers callers.items result.callers.items }
     ensures later { read_first ≡ true → (k : ℕ) → OwnFollowShut (B.author (B.setup book)) (k + 1) [] (B.history result.book) }
-    // How it ended, and what came of the input.
+    // How it ended, and what became of the input.
     ensures ended { IfOk result.end (EndsSo B.finished B.spent (B.setup book) (B.history result.book) (B.mark result.book) batchers) }
     ensures left { result.end ≡ Ok RunEnd.Spent → HasLeftOne B.left (B.setup book) (B.history result.book) batchers ⊎ (result.input.end ≡ None) }
     ensures came { IfOk result.end (CameSo S.left result.input (B.items (B.history result.book)) (B.history result.book)) }

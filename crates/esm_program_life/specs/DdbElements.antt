@@ -1,4 +1,4 @@
--- What the calls of `ddb` held: each was of exactly the elements of its batch, in a tumbling window too, whose state an earlier run
+-- What the calls of `ddb` held: exactly the elements of their batches, also in a tumbling window, whose state an earlier run
 -- may have kept. This product's own.
 use Rattle.std.specs.Prelude.{◌≡◌, ◌≢◌, ◌⊎◌, ◌∷◌, ◌++◌, ℕ, Bool, true, List, Some, reverse}
 use Rattle.esm_cli.specs.declared.command.Command.TheVariants as command
@@ -31,36 +31,36 @@ use Rattle.esm_run.specs.declared.world.World.{World}
 use Rattle.esm_runner.specs.Coming.{records_in_items}
 use Rattle.esm_runner.specs.Headline.{CallsMade, CallsMadeOrOneMore}
 
--- each state of a window that the content says reads as an object
+-- each state of a window that the content has reads as an object
 abbrev pub SaysStates : List (List ℕ) → Type 0
 SaysStates content = (n w : ℕ) (text : List ℕ) → state_said (saids (reverse content)) n w ≡ Some text → IsState text
 
--- the calls of each batcher that ended, and those that still run, were of exactly the elements of their batches, with what the event
+-- each call of a batcher that ended, and each that still runs, was of exactly the elements of its batch, with what the event
 -- says of its window
 pub record SentElements (sends : List ℕ → List ℕ) (s : Setting) (h : List Entry) : Type 0 where
   pub ended : (k : ℕ) → calls s (λ event. sends (ddb_event event)) h k ≡ element_calls s sends h k
   pub running : (lane : LaneId) → is_running h lane ≡ true → ddb_event (last_event s h lane) ≡ last_elements s h lane
 
--- So it is of a run, where the journal said only states that read. Of a mapping without windows nothing is asked.
+-- So it is of a run whose journal had only states that read as objects. Of a mapping without windows this is not required.
 abbrev pub RunSendsElements : {S D F : Type 0} → RunTells S D F → (config : List ℕ) → (calls : ℕ) → (traced : Bool) → List Entry → (old new : Seen S D F) → (text : List ℕ) → Ending → Type 0
 RunSendsElements o config calls traced h old new text ending =
     (run : IsDdbRun o config calls traced h old new text ending) → (has_windows run.mapping.config ≡ true → SaysStates run.files.pair.payloads) → SentElements o.run.callers.sends run.setting h
 
--- and of one that is a stage of a life, whose journal said no others
+-- and of a run that is a stage of a life, whose journal has no other states
 abbrev pub StageSendsElements : {S K D C F L N : Type 0} → DevicesTell S K D F L N → (config : List ℕ) → (calls timeout : ℕ) → (traced : Bool) → (old new : World S K D C F L) → (status : ℕ) → List Stage → Run → Type 0
 StageSendsElements t config calls timeout traced old new status life run =
     IsLife (Ran run ∷ life) → MayAdd t (command.Ddb config calls timeout traced) old new status (Ran run) → SentElements t.sends run.setting run.happened
 
--- The mapping that the text is ran, over this setting: caller k's log, where told, grew by the calls of batcher k, or where want of
--- memory stopped the run perhaps by one further call of a lane that still runs, and each of these was of exactly the elements of its
--- batch.
+-- The mapping that the text gives ran, over this setting. Caller k's log, if it is visible, grew by the calls of batcher k,
+-- and if memory ran out perhaps by one further call of a lane that still runs. Each of these calls was of exactly the
+-- elements of its batch.
 pub record HasSentElements {S K D C F L N : Type 0} (t : DevicesTell S K D F L N) (config : List ℕ) (calls status : ℕ) (old new : World S K D C F L) : Type 0 where
   pub mapping : NamedMapping
   pub named : IsExpected DynamoDb config mapping
   pub setting : Setting
   pub config_is : setting.config ≡ mapping.config
   pub calls_are : setting.calls ≡ calls
-  -- its records are the first of those of the changes that were read of the input
+  -- its records are a prefix of those of the changes that were read of the input
   pub items : List Item
   pub read : reads_turned t status old new mapping items
   pub came : (n : ℕ) → (rest : List Record) × (of_shard n (records_in_items items) ≡ records_of setting n ++ rest)
@@ -69,7 +69,7 @@ pub record HasSentElements {S K D C F L N : Type 0} (t : DevicesTell S K D F L N
   pub calls_ended : status ≢ 70 → CallsMade (ddb_tells (of_run t)) setting (history new) old.callers.items new.callers.items
   pub elements : SentElements t.sends setting (history new)
 
--- so `ddb` did over a journal that opens to a life, or it ran nothing
+-- `ddb` did so over a journal that opens to a life, or nothing happened
 abbrev pub SendsElements : {S K D C F L N : Type 0} → DevicesTell S K D F L N → (config : List ℕ) → (calls : ℕ) → (old new : World S K D C F L) → (status : ℕ) → List Stage → (epoch : ℕ) → Type 0
 SendsElements t config calls old new status life epoch =
     AreHonest t.disk old.journal old.spare → OpensToLife life epoch (t.disk.content old.journal) (t.disk.content old.spare) →

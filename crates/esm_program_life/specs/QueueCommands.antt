@@ -1,5 +1,5 @@
--- Commands of a queue's folder one after the other, each ended or stopped at any moment, and what they leave of its life. What came
--- last stands first. This product's own.
+-- Commands over a queue's folder, one after the other, each ended or stopped at any moment, and what they leave of the life
+-- of its mapping. The newest comes first. This product's own.
 use Rattle.std.specs.Prelude.{◌≡◌, ◌⊎◌, ◌+◌, ◌∷◌, ◌++◌, ℕ, Bool, true, List, [], Option, Some, None}
 use Rattle.esm_cli.specs.declared.command.Command.{Command}
 use Rattle.esm_folder.specs.Upkeep.{AreHonest}
@@ -19,43 +19,43 @@ pub record FileBytes : Type 0 where
   pub spare : List ℕ
   pub lines : List ℕ
 
--- what is asked of the command
+-- what is required of the command
 abbrev pub IsFit : {S K D C F L N : Type 0} → DevicesTell S K D F L N → Bool → Option Command → (old : World S K D C F L) → Type 0
 IsFit t fifo (Some c) old = NamesAQueue t fifo c old.registry
 IsFit t fifo None old = Unit {0}
 
--- The bytes that may be left of the three files. Words that spell no command open none.
+-- The bytes that may be left of the three files. Words that spell no command open none of them.
 abbrev pub MayBeLeftBy : {S K D C F L N : Type 0} → DevicesTell S K D F L N → Option Command → (old new : World S K D C F L) → (status : ℕ) → (one other bytes : List ℕ) → Type 0
 MayBeLeftBy t (Some c) old new status one other bytes = MayBeLeft t c old new status one other bytes
 MayBeLeftBy t None old new status one other bytes =
     (IsSinceStart t.disk old.journal old.spare new.journal new.spare one other × AreLinesSinceStart t.disk old.failures new.failures bytes)
     ⊎ (IsReadAtEnd t.disk old.journal old.spare new.journal new.spare one other × AreLinesRead t.disk old.failures new.failures bytes)
 
--- the command began on what was found, and `esm` says so much of its words
+-- the command began on what was found, and the clauses of `esm` hold of its words and worlds
 pub record IsStep {S K D C F L N : Type 0} (t : DevicesTell S K D F L N) (fifo : Bool) (found : FileBytes) (step : Step S K D C F L FileBytes) : Type 0 where
   pub spelled : Spell step.words step.command
   pub said : IsSaid t step.words step.old step.new step.status
   pub fit : IsFit t fifo step.command step.old
-  -- its disks had these bytes; they are honest
+  -- its disks had these bytes, and are honest
   pub honest : AreHonest t.disk step.old.journal step.old.spare
   pub honest_lines : t.disk.honest step.old.failures ≡ true
   pub journal_found : t.disk.content step.old.journal ≡ found.journal
   pub spare_found : t.disk.content step.old.spare ≡ found.spare
   pub lines_found : t.disk.content step.old.failures ≡ found.lines
-  -- and those may have been left
+  -- and these bytes may have been left
   pub left_so : MayBeLeftBy t step.command step.old step.new step.status step.left.journal step.left.spare step.left.lines
 
--- each began on what the one before it left, the oldest on what was found
+-- each command began on what the one before it left, and the oldest on what was found
 abbrev pub AreSteps : {S K D C F L N : Type 0} → DevicesTell S K D F L N → Bool → FileBytes → List (Step S K D C F L FileBytes) → Type 0
 AreSteps t fifo found [] = Unit {0}
 AreSteps t fifo found (step ∷ steps) = AreSteps t fifo found steps × IsStep t fifo (left_by found steps) step
 
--- the command ran no mapping of a queue
+-- if the command runs a mapping of a queue, nothing happened in it
 abbrev pub RanNone : {S K D C F L : Type 0} → Option Command → (old new : World S K D C F L) → Type 0
 RanNone (Some c) old new = is_run c ≡ true → NothingHappened old new
 RanNone None old new = Unit {0}
 
--- the stage is one that the command may add; words that spell none add none
+-- the command may add this stage; words that spell no command add none
 abbrev pub IsAdded : {S K D C F L N : Type 0} → DevicesTell S K D F L N → Option Command → (old new : World S K D C F L) → (status : ℕ) → Stage → Type 0
 IsAdded t (Some c) old new status stage = MayAdd t c old new status stage
 IsAdded t None old new status stage = ⊥
@@ -68,7 +68,7 @@ pub record IsLastOf {S K D C F L N : Type 0} (t : DevicesTell S K D F L N) (step
   pub added : IsAdded t step.command step.old step.new step.status stage
   pub are_before : before stages_before
 
--- each command added one of the stages, or none where it ran no mapping
+-- each command added one of the stages, or none; one that runs a mapping adds none only if nothing happened in it
 abbrev pub AreStagesOf : {S K D C F L N : Type 0} → DevicesTell S K D F L N → List (Step S K D C F L FileBytes) → List Stage → Type 0
 AreStagesOf t [] stages = stages ≡ []
 AreStagesOf t (step ∷ steps) stages = (AreStagesOf t steps stages × RanNone step.command step.old step.new) ⊎ IsLastOf t step (AreStagesOf t steps) stages
@@ -83,7 +83,7 @@ pub record AddStages {S K D C F L N : Type 0} (t : DevicesTell S K D F L N) (fif
 abbrev pub StepsKeepLife : {S K D C F L N : Type 0} → DevicesTell S K D F L N → Bool → FileBytes → List (Step S K D C F L FileBytes) → List Stage → (epoch : ℕ) → Type 0
 StepsKeepLife t fifo found steps life epoch = AreSteps t fifo found steps → OpensToLife fifo life epoch found.journal found.spare found.lines → AddStages t fifo found steps life
 
--- of a pair of version 1 the same, where each command is `migrate` or one that writes no journal
+-- the same of a pair of version 1, if each command is `migrate` or one that writes no journal
 abbrev pub StepsMigrateLife : {S K D C F L N : Type 0} → DevicesTell S K D F L N → Bool → FileBytes → List (Step S K D C F L FileBytes) → List Stage → (epoch : ℕ) → Type 0
 StepsMigrateLife t fifo found steps life epoch =
     AreSteps t fifo found steps → AreMigrations steps → OpensToLifeOfVersion1 fifo life epoch found.journal found.spare found.lines →

@@ -1,5 +1,5 @@
--- What is known of a queue's mapping that a command ran, by what `esm` says of it: a run, or a redrive. In each definition disks and
--- callers come first as they were handed in, and then as they were handed back. This product's own.
+-- What the clauses of `esm` say of a run of a queue's mapping, or of a redrive, that a command made. Each definition takes
+-- disks and callers first as they were handed in, and then as they were handed back. This product's own.
 use Rattle.std.specs.Prelude.{◌≡◌, ◌≢◌, ◌⊎◌, ℕ, List, Option, Some, None}
 use Rattle.esm_folder.specs.Upkeep.{OneRose}
 use Rattle.esm_io.specs.Faults.{Rose}
@@ -28,20 +28,21 @@ use Rattle.esm_runner.specs.QueueStopping.{HasLogged}
 
 -- statuses
 
--- the status hides no fault of a disk: with 6 one of the pair failed, with 7 the dead-letter file did, with 5 the output failed and
--- one may have before, and 70 tells nothing
+-- the status hides no fault of a disk: with 6 one of the pair failed, with 7 the dead-letter file did, with 5 the output
+-- failed and a disk may have failed before, and 70 says nothing of a fault
 pub record HidesNoFault (status : ℕ) : Type 0 where
   pub output : status ≢ 5
   pub disk : status ≢ 6
   pub lines : status ≢ 7
   pub memory : status ≢ 70
 
--- the status tells of no trouble: it hides no fault of a disk, and no message came otherwise than it was kept, with 8
+-- the status reports no trouble: it hides no fault of a disk, and it is not 8, which reports a message that differs from the
+-- kept one
 pub record TellsNoTrouble (status : ℕ) : Type 0 where
   pub hides : HidesNoFault status
   pub changed : status ≢ 8
 
--- the status tells of a fault, or hides it
+-- the status reports a fault, or hides one
 abbrev pub Shows : (status : ℕ) → Type 0
 Shows status = HidesNoFault status → ⊥
 
@@ -51,7 +52,7 @@ AnyRose m journal spare failures journal' spare' failures' = OneRose m journal s
 
 -- runs
 
--- a queue's mapping ran over these disks, whatever ended or stopped the run; where a disk failed, this was told too
+-- a queue's mapping ran over these disks, whatever ended or stopped the run; if a disk failed, `told` holds too
 pub record HasRanOver {D F : Type 0} (t : Telling D F) (told : Type 0) (status : ℕ) (names : NamedMapping → Type 0) (reads : NamedMapping → List Item → Type 0) (calls visibility : ℕ) (h : List Entry) (journal spare failures : D) (old : List F) (new : Devices D F) : Type 0 where
   pub mapping : NamedMapping
   pub named : names mapping
@@ -72,7 +73,7 @@ pub record HasRanOver {D F : Type 0} (t : Telling D F) (told : Type 0) (status :
   pub no_trouble : TellsNoTrouble status → trouble_is ≡ None
   pub fault : trouble_is ≡ Some trouble.Disk → AnyRose t.disk journal spare failures new.journal new.spare new.failures × told
 
--- a redrive ran over these disks, whatever ended or stopped it; where a disk failed, this was told too
+-- a redrive ran over these disks, whatever ended or stopped it; if a disk failed, `told` holds too
 pub record HasRedriven {D F : Type 0} (t : redrive_ended.Telling D F) (told : Type 0) (status : ℕ) (w : RedriveWords) (reads : NamedMapping → List Item → Type 0) (h : List Entry) (journal spare failures : D) (old new_callers : List F) (new : RedriveDisks D) : Type 0 where
   pub mapping : NamedMapping
   pub named : IsExpected expected.Queue w.config mapping

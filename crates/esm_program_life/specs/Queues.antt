@@ -1,5 +1,5 @@
--- What a command leaves of the life of a queue's mapping, by the words of its command line and by what `esm` says of them. In each
--- definition disks and worlds come first as they were handed in, and then as they were handed back. This product's own.
+-- What a command leaves of the life of a queue's mapping, by the words of its command line and the clauses of `esm`. Each
+-- definition takes disks and worlds first as they were handed in, and then as they were handed back. This product's own.
 use Rattle.std.specs.Prelude.{◌≡◌, ◌≢◌, ◌⊎◌, ◌+◌, ◌*◌, ◌++◌, ◌∷◌, ℕ, Bool, true, false, List}
 use Rattle.esm_cli.specs.declared.command.Command.{Command}
 use Rattle.esm_cli.specs.declared.command.Command.TheVariants as command
@@ -42,9 +42,9 @@ use Rattle.esm_runner.specs.QueueHeadline.{CallsMade, CallsMadeOrOneMore}
 use Rattle.esm_runner.specs.QueueStopping.{HasLogged}
 use Rattle.esm_workers.specs.Working.{Outside}
 
--- what is asked of a command
+-- what is required of a command
 
--- The pair opens to the content that a life leaves, and the dead-letter file to its lines. The disks are honest.
+-- The pair opens to the content that a life leaves, and the dead-letter file to its lines; the disks are honest.
 pub record HasLife {D : Type 0} (m : DiskMeaning D) (fifo : Bool) (life : List Stage) (epoch : ℕ) (journal spare failures : D) : Type 0 where
   pub honest : AreHonest m journal spare
   pub honest_lines : m.honest failures ≡ true
@@ -54,10 +54,10 @@ pub record HasLife {D : Type 0} (m : DiskMeaning D) (fifo : Bool) (life : List S
 abbrev pub IsQueueOf : Bool → Kind → Type 0
 IsQueueOf fifo kind = (is_stream kind ≡ false) × (is_fifo kind ≡ fifo)
 
--- The mapping that the words name is a queue's, of this kind, if they name one that may run. This asks nothing of a command that names
--- no mapping; of `ddb` and `replay`, which take a stream's alone, it asks that the words name none that may run. A mapping with an id
--- is one that the registry's file says, as far as its disk is honest: of a disk that is not, the id may name any mapping, and this does
--- not hold.
+-- If the words name a mapping that may run, it is that of a queue of this kind. This requires nothing of a command that
+-- names no mapping; of `ddb` and `replay`, which take only a stream's mapping, it requires that the words name none that may
+-- run. A mapping with an id is the one that the registry's file has, if its disk is honest; on any other disk the id may
+-- name any mapping, and this does not hold.
 abbrev pub NamesAQueue : {S K D F L N : Type 0} → DevicesTell S K D F L N → Bool → Command → (registry : D) → Type 0
 NamesAQueue t fifo (command.Run r) registry = (mapping : NamedMapping) → IsNamed t.disk r.which registry mapping → IsQueueOf fifo mapping.config.kind
 NamesAQueue t fifo (command.Redrive config receives calls visibility timeout traced) registry = (mapping : NamedMapping) → IsExpected expected.Queue config mapping → IsQueueOf fifo mapping.config.kind
@@ -67,10 +67,10 @@ NamesAQueue t fifo _ registry = Unit {0}
 
 -- stages
 
--- The run of a stage is the command's. What happened in it is the history that the command left, over the mapping, the calls and the
--- visibility timeout, in milliseconds, of its words; its messages are the first of those that were read of the input; and caller k's
--- log, where told, is the old one followed by the calls of batcher k in that run, or where want of memory stopped it perhaps by one
--- further call of a lane that still runs.
+-- The run of a stage is the command's. What happened in it is the history that the command left, over the mapping, the calls
+-- and the visibility timeout (in milliseconds) of its words. Its messages are a prefix of those that were read of the input.
+-- Caller k's log, if it is visible, is the old one followed by the calls of batcher k in that run, and if memory ran out
+-- perhaps by one further call of a lane that still runs.
 pub record IsRunOf {D F : Type 0} (t : Telling D F) (status : ℕ) (names : NamedMapping → Type 0) (reads : NamedMapping → List Item → Type 0) (calls visibility : ℕ) (h : List Entry) (old new : List F) (run : Run) : Type 0 where
   pub mapping : NamedMapping
   pub named : names mapping
@@ -81,13 +81,13 @@ pub record IsRunOf {D F : Type 0} (t : Telling D F) (status : ℕ) (names : Name
   pub read : reads mapping items
   pub came : (rest : List Message) × (messages_in_items items ≡ run.setting.messages ++ rest)
   pub happened_is : run.happened ≡ h
-  -- each moment of what the journal recorded of it is one that the clock gave
+  -- each moment in what the journal recorded of it is one that the clock gave
   pub moments : AreGiven t.callers.gave run.recorded
   pub calls_made : CallsMadeOrOneMore t run.setting h old new
   pub calls_ended : status ≢ 70 → CallsMade t run.setting h old new
 
--- The redrive of a stage is the command's; of the callers the first one alone was used. Its messages are the first of those that were
--- read of the input.
+-- The redrive of a stage is the command's; only the first of the callers was used. Its messages are a prefix of those that
+-- were read of the input.
 pub record IsRedriveOf {F : Type 0} (callers : Outside F) (status : ℕ) (config : List ℕ) (reads : NamedMapping → List Item → Type 0) (receives calls visibility : ℕ) (h : List Entry) (old new : List F) (redrive : Redrive) : Type 0 where
   pub mapping : NamedMapping
   pub named : IsExpected expected.Queue config mapping
@@ -100,7 +100,8 @@ pub record IsRedriveOf {F : Type 0} (callers : Outside F) (status : ℕ) (config
   pub read : reads mapping items
   pub came : (rest : List Message) × (messages_in_items items ≡ redrive.setting.queue.messages ++ rest)
   pub happened_is : redrive.happened ≡ h
-  -- each moment of what the journal recorded of it, and of what the dead-letter file has the lines of, is one that the clock gave
+  -- each moment is one that the clock gave, in what the journal recorded of it and in what the dead-letter file has the
+  -- lines of
   pub moments : AreGiven callers.gave redrive.recorded
   pub lines_given : AreGiven callers.gave redrive.lined
   pub caller : F
@@ -123,8 +124,8 @@ RanOver t (command.Redrive config receives calls visibility timeout traced) old 
     × (ran.files ≡ files)
 RanOver t _ old new status files = ⊥
 
--- the stage that a command may add to a life: `run` a run of its own, `redrive` a redrive of its own, `compact` the list that it
--- wrote, and no other command any
+-- the stage that a command may add to a life: `run` adds its run, `redrive` its redrive, `compact` the list that it wrote,
+-- and no other command adds any
 abbrev pub MayAdd : {S K D C F L N : Type 0} → DevicesTell S K D F L N → Command → (old new : World S K D C F L) → (status : ℕ) → Stage → Type 0
 MayAdd t (command.Run r) old new status (Ran run) = IsRunOf (of_run t).run status (λ mapping. IsNamed t.disk r.which old.registry mapping) (reads_messages t status old new) r.calls (visibility_of r) (history new) old.callers.items new.callers.items run
 MayAdd t (command.Redrive config receives calls visibility timeout traced) old new status (Redriven redrive) = IsRedriveOf (of_run t).run.callers status config (reads_messages t status old new) receives calls visibility (history new) old.callers.items new.callers.items redrive
@@ -137,7 +138,8 @@ is_run (command.Run r) = true
 is_run (command.Redrive config receives calls visibility timeout traced) = true
 is_run _ = false
 
--- A command that runs a mapping of a queue ran it over files that it had opened, or nothing happened, and nothing was written.
+-- A command that runs a mapping of a queue ran it over files that it had opened; or nothing happened, and nothing was
+-- written.
 abbrev pub MayRun : {S K D C F L N : Type 0} → DevicesTell S K D F L N → Bool → Command → (old new : World S K D C F L) → (status : ℕ) → Type 0
 MayRun {S} {K} {D} t fifo c old new status =
     NamesAQueue t fifo c old.registry → is_run c ≡ true →
@@ -145,21 +147,21 @@ MayRun {S} {K} {D} t fifo c old new status =
 
 -- what is left
 
--- Bytes that a crash may leave of the dead-letter file: of a redrive those at its end, else those at any moment since the command
--- began; so it had one image then, as a file has that was synced when it was opened.
+-- The bytes that a crash may leave of the dead-letter file: of a redrive's, at its end; of any other command's, at any
+-- moment since it began. The file must have had one image then, as one has that was synced when it was opened.
 abbrev pub MayBeLines : {S K D C F L N : Type 0} → DevicesTell S K D F L N → Command → (old new : World S K D C F L) → List ℕ → Type 0
 MayBeLines t (command.Redrive config receives calls visibility timeout traced) old new bytes = AreLinesAtEnd t.disk old.failures new.failures bytes
 MayBeLines t _ old new bytes = AreLinesSinceStart t.disk old.failures new.failures bytes
 
--- So where the command ran its mapping over these files: then nothing is asked of what the file was before.
+-- The same if the command ran its mapping over these files; then nothing is required of what the file was before.
 abbrev pub MayBeLinesOver : {S K D C F L N : Type 0} → DevicesTell S K D F L N → Command → FilesState D → (new : World S K D C F L) → List ℕ → Type 0
 MayBeLinesOver t (command.Redrive config receives calls visibility timeout traced) files new bytes = t.disk.image new.failures bytes
 MayBeLinesOver t _ files new bytes = t.disk.since new.failures (t.disk.moment files.dest.disk) bytes
 
--- Bytes that may be left of the three files: by a crash, of the journal and its spare at any moment since the command began, of disks
--- that had one image then; where it ran its mapping, by a crash since its files were opened, whatever one might have left of the disks
--- before; where `compact` or `migrate` wrote the pair, by a crash at its end; and where nothing was written and no mapping ran, what the
--- disks read as at its end.
+-- The bytes that may be left of the three files. A crash at any moment since the command began leaves them of disks that had
+-- one image then. If the command ran its mapping, a crash since its files were opened leaves them, whatever one might have
+-- left of the disks before. If `compact` or `migrate` wrote the pair, a crash at the command's end leaves them. If nothing
+-- was written and no mapping ran, they are what the disks read as at the end.
 abbrev pub MayBeLeft : {S K D C F L N : Type 0} → DevicesTell S K D F L N → Command → (old new : World S K D C F L) → (status : ℕ) → (one other bytes : List ℕ) → Type 0
 MayBeLeft {S} {K} {D} t c old new status one other bytes =
     (IsSinceStart t.disk old.journal old.spare new.journal new.spare one other × MayBeLines t c old new bytes)
@@ -167,7 +169,7 @@ MayBeLeft {S} {K} {D} t c old new status one other bytes =
     ⊎ ((IsWrittenAtEnd t.disk c old.journal old.spare new.journal new.spare one other × AreLinesRead t.disk old.failures new.failures bytes)
     ⊎ ((files : FilesState D) × RanOver t c old new status files × IsSinceOpening t.disk files new.journal new.spare one other × MayBeLinesOver t c files new bytes)))
 
--- these bytes open to the life that was found, and the command ran no mapping
+-- these bytes open to the life that was found, and nothing happened in the command, if it runs a mapping
 pub record IsAsFound {S K D C F L : Type 0} (fifo : Bool) (c : Command) (old new : World S K D C F L) (life : List Stage) (epoch : ℕ) (one other bytes : List ℕ) : Type 0 where
   pub opens : OpensToLife fifo life epoch one other bytes
   pub none_ran : is_run c ≡ true → NothingHappened old new
@@ -179,22 +181,22 @@ pub record AddsStage {S K D C F L N : Type 0} (t : DevicesTell S K D F L N) (fif
   pub epoch : ℕ
   pub opens : OpensToLife fifo (stage ∷ life) epoch one other bytes
 
--- Whatever is left of the journal and its spare and of the dead-letter file opens to the life that was found, or to it with one
--- further stage; where a mapping ran there is that stage, also where its files kept nothing of it. So it is whatever the status, also
--- where want of memory stopped the command.
+-- Whatever is left of the journal, its spare and the dead-letter file opens to the life that was found, or to it with one
+-- further stage. If anything happened in the run of a mapping, the stage is there, even if the files kept nothing of it.
+-- This holds whatever the status, also if memory ran out.
 abbrev pub KeepsLife : {S K D C F L N : Type 0} → DevicesTell S K D F L N → Bool → Command → (old new : World S K D C F L) → (status : ℕ) → List Stage → (epoch : ℕ) → Type 0
 KeepsLife t fifo c old new status life epoch =
     HasLife t.disk fifo life epoch old.journal old.spare old.failures → NamesAQueue t fifo c old.registry →
     (one other bytes : List ℕ) → MayBeLeft t c old new status one other bytes →
     IsAsFound fifo c old new life epoch one other bytes ⊎ AddsStage t fifo c old new status life one other bytes
 
--- the journal kept all that happened in the run, after which nothing is called for if there was no trouble: each message that waits
--- passes the filter, and no lane is owed a deletion
+-- the journal kept everything that happened in the run, and after a run without trouble nothing is owed: each message that
+-- waits passes the filter, and no lane is owed a deletion
 pub record IsWholeRun (status : ℕ) (run : Run) : Type 0 where
   pub recorded : run.recorded ≡ run.happened
   pub settled : TellsNoTrouble status → SettledQueue run.setting run.happened
 
--- the files kept all that happened in the stage, and after a redrive nothing more is called for
+-- the files kept everything that happened in the stage, and after a redrive nothing more is owed
 abbrev pub IsWhole : (status : ℕ) → Stage → Type 0
 IsWhole status (Ran run) = IsWholeRun status run
 IsWhole status (Redriven redrive) = IsWholeRedrive redrive
@@ -210,7 +212,8 @@ pub record AddsWhole {S K D C F L N : Type 0} (t : DevicesTell S K D F L N) (fif
   pub settled : AreSettled t.disk new.journal new.spare
   pub settled_lines : Only (t.disk.content new.failures) (t.disk.image new.failures)
 
--- nothing ran, and the disks open to the life that was found; where a crash could leave nothing else of one before, it still cannot
+-- nothing happened, and the disks open to the life that was found; if a crash could leave nothing else of a disk before, it
+-- still cannot
 pub record AddsNothing {S K D C F L N : Type 0} (t : DevicesTell S K D F L N) (fifo : Bool) (old new : World S K D C F L) (life : List Stage) (epoch : ℕ) : Type 0 where
   pub nothing : NothingHappened old new
   pub opens : OpensToLife fifo life epoch (t.disk.content new.journal) (t.disk.content new.spare) (t.disk.content new.failures)
@@ -221,14 +224,15 @@ pub record AddsNothing {S K D C F L N : Type 0} (t : DevicesTell S K D F L N) (f
 abbrev pub NoneFailed : {D : Type 0} → DiskMeaning D → (status : ℕ) → (journal spare failures journal' spare' failures' : D) → Type 0
 NoneFailed m status journal spare failures journal' spare' failures' = (¬ (OneRose m journal spare journal' spare' ⊎ Rose (m.faults failures) (m.faults failures'))) ⊎ HidesNoFault status
 
--- where none of them failed, a command that ran leaves its whole run
+-- if none of them failed, a command that runs a mapping leaves its whole run, or nothing happened
 abbrev pub KeepsWhole : {S K D C F L N : Type 0} → DevicesTell S K D F L N → Bool → Command → (old new : World S K D C F L) → (status : ℕ) → List Stage → (epoch : ℕ) → Type 0
 KeepsWhole t fifo c old new status life epoch =
     HasLife t.disk fifo life epoch old.journal old.spare old.failures → NamesAQueue t fifo c old.registry → is_run c ≡ true →
     NoneFailed t.disk status old.journal old.spare old.failures new.journal new.spare new.failures →
     AddsNothing t fifo old new life epoch ⊎ AddsWhole t fifo c old new status life
 
--- `compact` wrote the pair: the files themselves open to the life with the list that it wrote, and a crash leaves nothing else of the pair
+-- `compact` wrote the pair: the files themselves open to the life with the list that it wrote, and a crash leaves nothing
+-- else of the pair
 pub record AddsRewritten {D : Type 0} (m : DiskMeaning D) (fifo : Bool) (journal spare failures journal' spare' failures' : D) (life : List Stage) : Type 0 where
   pub written : HasWritten m command.Compact journal spare journal' spare'
   pub lines_same : failures' ≡ failures
@@ -237,12 +241,12 @@ pub record AddsRewritten {D : Type 0} (m : DiskMeaning D) (fifo : Bool) (journal
   pub opens : OpensToLife fifo (Rewritten list ∷ life) epoch (m.content journal') (m.content spare') (m.content failures')
   pub settled : AreSettled m journal' spare'
 
--- so it is where it ended with 0
+-- so it is if it ended with 0
 abbrev pub CompactsLife : {S K D C F L N : Type 0} → DevicesTell S K D F L N → Bool → (old new : World S K D C F L) → (status : ℕ) → List Stage → (epoch : ℕ) → Type 0
 CompactsLife t fifo old new status life epoch =
     status ≡ 0 → HasLife t.disk fifo life epoch old.journal old.spare old.failures → AddsRewritten t.disk fifo old.journal old.spare old.failures new.journal new.spare new.failures life
 
--- where the words spell no command the life stays as it is
+-- if the words spell no command, the life stays as it is
 abbrev pub KeepsUntouched : {S K D C F L N : Type 0} → DevicesTell S K D F L N → Bool → (old new : World S K D C F L) → List Stage → (epoch : ℕ) → Type 0
 KeepsUntouched t fifo old new life epoch =
     HasLife t.disk fifo life epoch old.journal old.spare old.failures →
@@ -251,12 +255,12 @@ KeepsUntouched t fifo old new life epoch =
     ⊎ (IsReadAtEnd t.disk old.journal old.spare new.journal new.spare one other × AreLinesRead t.disk old.failures new.failures bytes) →
     OpensToLife fifo life epoch one other bytes
 
--- a life begins where `init` ended with 0: in it nothing has happened, and a crash leaves nothing else of its files
+-- a life begins when `init` ends with 0: it has no stages, and a crash leaves nothing else of its files
 abbrev pub BeginsLife : {S K D C F L N : Type 0} → DevicesTell S K D F L N → Bool → (old new : World S K D C F L) → (status : ℕ) → Type 0
 BeginsLife t fifo old new status = status ≡ 0 → AllAreHonest t.disk (disks_in old) → HasBegunLife t.disk (disks_in new) fifo
 
--- of a pair of version 1, beside a dead-letter file: whatever a crash leaves while `migrate` writes it as one of version 2 opens to the
--- same life
+-- of a pair of version 1 and a dead-letter file: whatever a crash leaves while `migrate` writes the pair as one of version 2
+-- opens to the same life
 abbrev pub MigratesLife : {S K D C F L N : Type 0} → DevicesTell S K D F L N → Bool → (old new : World S K D C F L) → List Stage → (epoch : ℕ) → Type 0
 MigratesLife t fifo old new life epoch =
     AreHonest t.disk old.journal old.spare → AreSettled t.disk old.journal old.spare → t.disk.honest old.failures ≡ true → Only (t.disk.content old.failures) (t.disk.image old.failures) →

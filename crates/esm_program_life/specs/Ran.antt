@@ -1,5 +1,5 @@
--- What is known of a stream's mapping that a command ran, by what `esm` says of it: a run, or a replay. In each definition disks and
--- callers come first as they were handed in, and then as they were handed back. This product's own.
+-- What the clauses of `esm` say of a run of a stream's mapping, or of a replay, that a command made. Each definition takes
+-- disks and callers first as they were handed in, and then as they were handed back. This product's own.
 use Rattle.std.specs.Prelude.{◌≡◌, ◌≢◌, ℕ, List, [], Option, Some, None}
 use Rattle.esm_folder.specs.Upkeep.{OneRose}
 use Rattle.esm_io.specs.Told.{Grows}
@@ -25,26 +25,27 @@ use Rattle.esm_runner.specs.Headline.{CallsMade, CallsMadeOrOneMore, Devices, He
 
 -- statuses
 
--- the status hides no fault of a disk: with 6 one failed, with 5 the output failed and one may have before, and 70 tells nothing
+-- the status hides no fault of a disk: with 6 one failed, with 5 the output failed and a disk may have failed before, and 70
+-- says nothing of a fault
 pub record HidesNoFault (status : ℕ) : Type 0 where
   pub output : status ≢ 5
   pub disk : status ≢ 6
   pub memory : status ≢ 70
 
--- the status tells of no trouble: it hides no fault of a disk, and neither did the failure file fail, with 7, nor did a record come
--- otherwise than it was kept, with 8
+-- the status reports no trouble: it hides no fault of a disk, and it is neither 7, which reports a fault of the failure
+-- file, nor 8, which reports a record that differs from the kept one
 pub record TellsNoTrouble (status : ℕ) : Type 0 where
   pub hides : HidesNoFault status
   pub lines : status ≢ 7
   pub changed : status ≢ 8
 
--- the status tells of a fault, or hides it
+-- the status reports a fault, or hides one
 abbrev pub Shows : (status : ℕ) → Type 0
 Shows status = HidesNoFault status → ⊥
 
 -- runs
 
--- a stream's mapping ran over these disks, whatever ended or stopped the run; where a disk failed, this was told too
+-- a stream's mapping ran over these disks, whatever ended or stopped the run; if a disk failed, `told` holds too
 pub record HasRanOver {D F : Type 0} (t : Telling D F) (told : Type 0) (status : ℕ) (names : NamedMapping → Type 0) (reads : NamedMapping → List Item → Type 0) (calls : ℕ) (h : List Entry) (journal spare : D) (old : List F) (new : Devices D F) : Type 0 where
   pub mapping : NamedMapping
   pub named : names mapping
@@ -64,7 +65,7 @@ pub record HasRanOver {D F : Type 0} (t : Telling D F) (told : Type 0) (status :
   pub no_trouble : TellsNoTrouble status → trouble_is ≡ None
   pub fault : trouble_is ≡ Some trouble.Disk → OneRose t.disk journal spare new.journal new.spare × told
 
--- a replay ran over these disks, whatever ended or stopped it; where a disk failed, this was told too
+-- a replay ran over these disks, whatever ended or stopped it; if a disk failed, `told` holds too
 pub record HasReplayed {D F : Type 0} (t : replay_ended.Telling D F) (told : Type 0) (status : ℕ) (config : List ℕ) (reads : NamedMapping → List Item → Type 0) (calls : ℕ) (h : List Entry) (journal spare : D) (old new_callers : List F) (new : ReplayDisks D) : Type 0 where
   pub mapping : NamedMapping
   pub named : IsExpected expected.Stream config mapping

@@ -1,4 +1,4 @@
--- What a command read of its input, and that nothing came of one that ran no mapping. This product's own.
+-- What a command read of its input, and that nothing happened in one that ran no mapping. This product's own.
 use Rattle.std.specs.Prelude.{◌≡◌, ◌≢◌, ◌++◌, ℕ, Bool, true, List, [], Option}
 use Rattle.esm_ddb.specs.Translating.{source_of}
 use Rattle.esm_ddb.specs.TurnedInput.{IsTurnedInput}
@@ -15,8 +15,8 @@ use Rattle.esm_run.specs.Ddb.{all_left}
 use Rattle.esm_run.specs.World.{history}
 use Rattle.esm_run.specs.declared.world.World.{World}
 
--- These items are those of the first bytes that were read of the input, from the starting position on. Where want of memory did
--- not stop the command, these are all the bytes that were read.
+-- These are the items of a prefix of the bytes that were read of the input, from the starting position on. Unless memory ran
+-- out, they are those of all bytes that were read.
 pub record HasRead {S : Type 0} (left : S → Option (List ℕ)) (kind : LineKind) (factor : ℕ) (start : Start) (status : ℕ) (old new : S) (items : List Item) : Type 0 where
   pub bytes : List ℕ
   pub more : List ℕ
@@ -26,7 +26,7 @@ pub record HasRead {S : Type 0} (left : S → Option (List ℕ)) (kind : LineKin
   pub no_more : status ≢ 70 → more ≡ []
   pub at_end : status ≢ 70 → whole ≡ true → IsAtEnd (left new)
 
--- so of a DynamoDB stream: the input was turned into these lines, and the items are those that were read of them
+-- the same of a DynamoDB stream: the input was turned into these lines, and the items are those that were read of them
 pub record HasReadTurned {S : Type 0} (faults : S → ℕ) (left : S → Option (List ℕ)) (mapping : NamedMapping) (status : ℕ) (old new : S) (items : List Item) : Type 0 where
   pub lines : List ℕ
   pub reading : InputTurned
@@ -34,7 +34,7 @@ pub record HasReadTurned {S : Type 0} (faults : S → ℕ) (left : S → Option 
   pub rest : List ℕ
   pub read : HasRead all_left Stream mapping.config.factor mapping.start status lines rest items
 
--- nothing happened, and no function was called
+-- the history is empty, and the callers are as before
 pub record NothingHappened {S K D C F L : Type 0} (old new : World S K D C F L) : Type 0 where
   pub no_trace : history new ≡ []
   pub uncalled : new.callers.items ≡ old.callers.items

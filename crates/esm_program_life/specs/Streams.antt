@@ -1,5 +1,5 @@
--- What a command leaves of the life of a stream's mapping, by the words of its command line and by what `esm` says of them. In
--- each definition disks and worlds come first as they were handed in, and then as they were handed back. This product's own.
+-- What a command leaves of the life of a stream's mapping, by the words of its command line and the clauses of `esm`. Each
+-- definition takes disks and worlds first as they were handed in, and then as they were handed back. This product's own.
 use Rattle.std.specs.Prelude.{◌≡◌, ◌≢◌, ◌⊎◌, ◌+◌, ◌++◌, ◌∷◌, ℕ, Bool, true, false, List, [], filter_map, reverse}
 use Rattle.esm_cli.specs.declared.command.Command.{Command}
 use Rattle.esm_cli.specs.declared.command.Command.TheVariants as command
@@ -45,24 +45,24 @@ use Rattle.esm_workers.specs.Working.{Outside}
 
 -- what `esm` says
 
--- of these words and this world, which it handed back with the status
+-- the clauses of `esm` for these words and this world, which it handed back with the status
 pub record IsSaid {S K D C F L N : Type 0} (t : DevicesTell S K D F L N) (words : List (List ℕ)) (old new : World S K D C F L) (status : ℕ) : Type 0 where
   pub outcome : status ≢ 70 → Outcome t words old new status
   pub want_of_memory : status ≡ 70 → IsStopped t words old new
   pub left : (c : Command) → SpellsBuilt words c → IsLeft t c old new
   pub untouched : ((c : Command) → ¬ SpellsBuilt words c) → new ≡ record old { out = new.out }
 
--- what is asked of a command
+-- what is required of a command
 
 -- The pair opens to the content that a life leaves, and its disks are honest.
 pub record HasLife {D : Type 0} (m : DiskMeaning D) (life : List Stage) (epoch : ℕ) (journal spare : D) : Type 0 where
   pub honest : AreHonest m journal spare
   pub opens : OpensToLife life epoch (m.content journal) (m.content spare)
 
--- The mapping that the words name is a stream's, if they name one that may run. This asks nothing of a command that names no mapping,
--- nor of `ddb` and `replay`, which take a stream's alone; of `redrive`, which takes a queue's alone, it asks that the words name none
--- that may run. A mapping with an id is one that the registry's file says, as far as its disk is honest: of a disk that is not, the id
--- may name any mapping, and this does not hold.
+-- If the words name a mapping that may run, it is a stream's. This requires nothing of a command that names no mapping, nor
+-- of `ddb` and `replay`, which take only a stream's; of `redrive`, which takes only a queue's, it requires that the words
+-- name none that may run. A mapping with an id is the one that the registry's file has, if its disk is honest; on any other
+-- disk the id may name any mapping, and this does not hold.
 abbrev pub NamesAStream : {S K D F L N : Type 0} → DevicesTell S K D F L N → Command → (registry : D) → Type 0
 NamesAStream t (command.Run r) registry = (mapping : NamedMapping) → IsNamed t.disk r.which registry mapping → is_stream mapping.config.kind ≡ true
 NamesAStream t (command.Redrive config receives calls visibility timeout traced) registry = (mapping : NamedMapping) → IsExpected expected.Queue config mapping → is_stream mapping.config.kind ≡ true
@@ -70,10 +70,10 @@ NamesAStream t _ registry = Unit {0}
 
 -- stages
 
--- The run of a stage is the command's. What happened in it is the history that the command left, over the mapping and the calls of
--- its words; the records of each of its shards are the first of those that were read of the input; and caller k's log, where told, is
--- the old one followed by the calls of batcher k in that run, or where want of memory stopped it perhaps by one further call of a lane
--- that still runs.
+-- The run of a stage is the command's. What happened in it is the history that the command left, over the mapping and the
+-- calls of its words. The records of each of its shards are a prefix of those that were read of the input. Caller k's log,
+-- if it is visible, is the old one followed by the calls of batcher k in that run, and if memory ran out perhaps by one
+-- further call of a lane that still runs.
 pub record IsRunOf {D F : Type 0} (t : Telling D F) (status : ℕ) (names : NamedMapping → Type 0) (reads : NamedMapping → List Item → Type 0) (calls : ℕ) (h : List Entry) (old new : List F) (run : Run) : Type 0 where
   pub mapping : NamedMapping
   pub named : names mapping
@@ -83,13 +83,13 @@ pub record IsRunOf {D F : Type 0} (t : Telling D F) (status : ℕ) (names : Name
   pub read : reads mapping items
   pub came : (n : ℕ) → (rest : List Record) × (of_shard n (records_in_items items) ≡ records_of run.setting n ++ rest)
   pub happened_is : run.happened ≡ h
-  -- each moment of what the journal recorded of it is one that the clock gave
+  -- each moment in what the journal recorded of it is one that the clock gave
   pub moments : AreGiven t.callers.gave run.recorded
   pub calls_made : CallsMadeOrOneMore t run.setting h old new
   pub calls_ended : status ≢ 70 → CallsMade t run.setting h old new
 
--- The replay of a stage is the command's; of the callers the first one alone was used. Its records are those that came, of each shard
--- the first of those that were read of the input.
+-- The replay of a stage is the command's; only the first of the callers was used. Its records are those that arrived, of
+-- each shard a prefix of those that were read of the input.
 pub record IsReplayOf {F : Type 0} (callers : Outside F) (status : ℕ) (config : List ℕ) (reads : NamedMapping → List Item → Type 0) (calls : ℕ) (h : List Entry) (old new : List F) (replay : ReplayRun) : Type 0 where
   pub mapping : NamedMapping
   pub named : IsExpected expected.Stream config mapping
@@ -101,7 +101,7 @@ pub record IsReplayOf {F : Type 0} (callers : Outside F) (status : ℕ) (config 
   pub came : SomeCame records (replay_records_in_items items)
   pub records_are : replay.setting.base.streams ≡ streams_of records
   pub happened_is : replay.happened ≡ h
-  -- each moment is one that the clock gave, that of the entry in hand too
+  -- each moment is one that the clock gave, that of an entry in hand included
   pub moments : AreReplayGiven callers.gave (replay.hand ++ replay.happened)
   pub caller : F
   pub caller_left : F
@@ -109,7 +109,7 @@ pub record IsReplayOf {F : Type 0} (callers : Outside F) (status : ℕ) (config 
   pub calls_made : HasLogged callers.sends replay.setting h (callers.log caller) (callers.log caller_left)
   pub calls_ended : status ≢ 70 → Grows (callers.log caller) (callers.log caller_left) (replay_calls replay.setting callers.sends h)
 
--- what was read of the input, by each command
+-- what each command read of the input
 abbrev pub reads_records : {S K D C F L N : Type 0} → DevicesTell S K D F L N → (status : ℕ) → (old new : World S K D C F L) → NamedMapping → List Item → Type 0
 reads_records t status old new mapping items = HasRead t.left kinds.Stream mapping.config.factor mapping.start status old.input new.input items
 
@@ -132,8 +132,8 @@ RanOver t (command.Replay config calls timeout traced) old new status files =
     × (ran.files ≡ files)
 RanOver t _ old new status files = ⊥
 
--- the stage that a command may add to a life: `run` and `ddb` a run of their own, `replay` a replay of its own, `compact` the list
--- that it wrote, and no other command any
+-- the stage that a command may add to a life: `run` and `ddb` add their run, `replay` its replay, `compact` the list that it
+-- wrote, and no other command adds any
 abbrev pub MayAdd : {S K D C F L N : Type 0} → DevicesTell S K D F L N → Command → (old new : World S K D C F L) → (status : ℕ) → Stage → Type 0
 MayAdd t (command.Run r) old new status (Ran run) = IsRunOf (of_run t).run status (λ mapping. IsNamed t.disk r.which old.registry mapping) (reads_records t status old new) r.calls (history new) old.callers.items new.callers.items run
 MayAdd t (command.Ddb config calls timeout traced) old new status (Ran run) = IsRunOf (ddb_tells (of_run t)) status (λ mapping. IsExpected expected.DynamoDb config mapping) (reads_turned t status old new) calls (history new) old.callers.items new.callers.items run
@@ -141,14 +141,14 @@ MayAdd t (command.Replay config calls timeout traced) old new status (Replay rep
 MayAdd t command.Compact old new status (Rewritten list) = Unit {0}
 MayAdd t _ old new status _ = ⊥
 
--- the command runs a mapping
+-- the command runs a mapping of a stream
 abbrev pub is_run : Command → Bool
 is_run (command.Run r) = true
 is_run (command.Ddb config calls timeout traced) = true
 is_run (command.Replay config calls timeout traced) = true
 is_run _ = false
 
--- A command that runs a mapping ran it over files that it had opened, or nothing happened, and nothing was written.
+-- A command that runs a mapping ran it over files that it had opened; or nothing happened, and nothing was written.
 abbrev pub MayRun : {S K D C F L N : Type 0} → DevicesTell S K D F L N → Command → (old new : World S K D C F L) → (status : ℕ) → Type 0
 MayRun {S} {K} {D} t c old new status =
     NamesAStream t c old.registry → is_run c ≡ true →
@@ -156,9 +156,10 @@ MayRun {S} {K} {D} t c old new status =
 
 -- what is left
 
--- Bytes that may be left of the pair: by a crash at any moment since the command began, of disks that had one image then; where it ran
--- its mapping, by a crash at any moment since its files were opened, whatever one might have left of the disks before; where `compact`
--- or `migrate` wrote it, by a crash at its end; and where nothing was written and no mapping ran, what the disks read as at its end.
+-- The bytes that may be left of the pair. A crash at any moment since the command began leaves them of disks that had one
+-- image then. If the command ran its mapping, a crash at any moment since its files were opened leaves them, whatever one
+-- might have left of the disks before. If `compact` or `migrate` wrote the pair, a crash at the command's end leaves them.
+-- If nothing was written and no mapping ran, they are what the disks read as at the end.
 abbrev pub MayBeLeft : {S K D C F L N : Type 0} → DevicesTell S K D F L N → Command → (old new : World S K D C F L) → (status : ℕ) → (one other : List ℕ) → Type 0
 MayBeLeft {S} {K} {D} t c old new status one other =
     IsSinceStart t.disk old.journal old.spare new.journal new.spare one other
@@ -166,7 +167,7 @@ MayBeLeft {S} {K} {D} t c old new status one other =
     ⊎ (IsWrittenAtEnd t.disk c old.journal old.spare new.journal new.spare one other
     ⊎ ((files : FilesState D) × RanOver t c old new status files × IsSinceOpening t.disk files new.journal new.spare one other)))
 
--- these bytes open to the life that was found, and the command ran no mapping
+-- these bytes open to the life that was found, and nothing happened in the command, if it runs a mapping
 pub record IsAsFound {S K D C F L : Type 0} (c : Command) (old new : World S K D C F L) (life : List Stage) (epoch : ℕ) (one other : List ℕ) : Type 0 where
   pub opens : OpensToLife life epoch one other
   pub none_ran : is_run c ≡ true → NothingHappened old new
@@ -178,21 +179,21 @@ pub record AddsStage {S K D C F L N : Type 0} (t : DevicesTell S K D F L N) (c :
   pub epoch : ℕ
   pub opens : OpensToLife (stage ∷ life) epoch one other
 
--- Whatever is left of the pair opens to the life that was found, or to it with one further stage; where a mapping ran there is
--- that stage, also where its journal recorded nothing of it. So it is whatever the status, also where want of memory stopped the
--- command.
+-- Whatever is left of the pair opens to the life that was found, or to it with one further stage. If anything happened in
+-- the run of a mapping, the stage is there, even if the journal recorded nothing of it. This holds whatever the status, also
+-- if memory ran out.
 abbrev pub KeepsLife : {S K D C F L N : Type 0} → DevicesTell S K D F L N → Command → (old new : World S K D C F L) → (status : ℕ) → List Stage → (epoch : ℕ) → Type 0
 KeepsLife t c old new status life epoch =
     HasLife t.disk life epoch old.journal old.spare → NamesAStream t c old.registry →
     (one other : List ℕ) → MayBeLeft t c old new status one other →
     IsAsFound c old new life epoch one other ⊎ AddsStage t c old new status life one other
 
--- the journal recorded all that happened in the run, after which nothing is owed if there was no trouble
+-- the journal recorded everything that happened in the run, and after a run without trouble nothing is owed
 pub record IsWholeRun (status : ℕ) (run : Run) : Type 0 where
   pub recorded : run.recorded ≡ run.happened
   pub paid : TellsNoTrouble status → OwesNothing run.setting run.happened
 
--- the journal recorded all that happened in the stage
+-- the journal recorded everything that happened in the stage
 abbrev pub IsWhole : (status : ℕ) → Stage → Type 0
 IsWhole status (Ran run) = IsWholeRun status run
 IsWhole status (Replay replay) = replay.left ≡ filter_map (entry_payload replay.setting.base) (reverse replay.happened)
@@ -207,7 +208,8 @@ pub record AddsWhole {S K D C F L N : Type 0} (t : DevicesTell S K D F L N) (c :
   pub opens : OpensToLife (stage ∷ life) epoch (t.disk.content new.journal) (t.disk.content new.spare)
   pub settled : AreSettled t.disk new.journal new.spare
 
--- nothing ran, and the disks open to the life that was found; where a crash could leave nothing else of them before, it still cannot
+-- nothing happened, and the disks open to the life that was found; if a crash could leave nothing else of them before, it
+-- still cannot
 pub record AddsNothing {S K D C F L N : Type 0} (t : DevicesTell S K D F L N) (old new : World S K D C F L) (life : List Stage) (epoch : ℕ) : Type 0 where
   pub nothing : NothingHappened old new
   pub opens : OpensToLife life epoch (t.disk.content new.journal) (t.disk.content new.spare)
@@ -217,13 +219,14 @@ pub record AddsNothing {S K D C F L N : Type 0} (t : DevicesTell S K D F L N) (o
 abbrev pub NoneFailed : {D : Type 0} → DiskMeaning D → (status : ℕ) → (journal spare journal' spare' : D) → Type 0
 NoneFailed m status journal spare journal' spare' = (¬ OneRose m journal spare journal' spare') ⊎ HidesNoFault status
 
--- where no disk of the pair failed, a command that ran leaves its whole run
+-- if no disk of the pair failed, a command that runs a mapping leaves its whole run, or nothing happened
 abbrev pub KeepsWhole : {S K D C F L N : Type 0} → DevicesTell S K D F L N → Command → (old new : World S K D C F L) → (status : ℕ) → List Stage → (epoch : ℕ) → Type 0
 KeepsWhole t c old new status life epoch =
     HasLife t.disk life epoch old.journal old.spare → NamesAStream t c old.registry → is_run c ≡ true → NoneFailed t.disk status old.journal old.spare new.journal new.spare →
     AddsNothing t old new life epoch ⊎ AddsWhole t c old new status life
 
--- `compact` wrote the pair: the disks themselves open to the life with the list that it wrote, and a crash leaves nothing else of them
+-- `compact` wrote the pair: the disks themselves open to the life with the list that it wrote, and a crash leaves nothing
+-- else of them
 pub record AddsRewritten {D : Type 0} (m : DiskMeaning D) (journal spare journal' spare' : D) (life : List Stage) : Type 0 where
   pub written : HasWritten m command.Compact journal spare journal' spare'
   pub list : List (List ℕ)
@@ -231,11 +234,11 @@ pub record AddsRewritten {D : Type 0} (m : DiskMeaning D) (journal spare journal
   pub opens : OpensToLife (Rewritten list ∷ life) epoch (m.content journal') (m.content spare')
   pub settled : AreSettled m journal' spare'
 
--- so it is where it ended with 0
+-- so it is if it ended with 0
 abbrev pub CompactsLife : {S K D C F L N : Type 0} → DevicesTell S K D F L N → (old new : World S K D C F L) → (status : ℕ) → List Stage → (epoch : ℕ) → Type 0
 CompactsLife t old new status life epoch = status ≡ 0 → HasLife t.disk life epoch old.journal old.spare → AddsRewritten t.disk old.journal old.spare new.journal new.spare life
 
--- where the words spell no command the life stays as it is
+-- if the words spell no command, the life stays as it is
 abbrev pub KeepsUntouched : {S K D C F L N : Type 0} → DevicesTell S K D F L N → (old new : World S K D C F L) → List Stage → (epoch : ℕ) → Type 0
 KeepsUntouched t old new life epoch =
     HasLife t.disk life epoch old.journal old.spare →
@@ -248,7 +251,7 @@ MigratesLife t old new life epoch =
     (one other : List ℕ) → t.disk.since new.journal (t.disk.moment old.journal) one → t.disk.since new.spare (t.disk.moment old.spare) other →
     OpensToLifeOfVersion1 life epoch one other ⊎ OpensToLife life (epoch + 1) one other
 
--- a life begins where `init` ended with 0: in it nothing has happened, and a crash leaves nothing else of the pair
+-- a life begins when `init` ends with 0: it has no stages, and a crash leaves nothing else of the pair
 abbrev pub BeginsLife : {S K D C F L N : Type 0} → DevicesTell S K D F L N → (old new : World S K D C F L) → (status : ℕ) → Type 0
 BeginsLife t old new status =
     status ≡ 0 → AreHonest t.disk old.journal old.spare →

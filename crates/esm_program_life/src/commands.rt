@@ -1,4 +1,4 @@
-// What commands leave of the life of a mapping, a stream's or a queue's, one after the other.
+// What commands leave of the life of a mapping, of a stream's or of a queue's, one after the other.
 ghost use Rattle.std.specs.Prelude.{ℕ, Bool, List};
 ghost use Rattle.esm_life.specs.Life.{Stage};
 ghost use Rattle.esm_program_life.specs.Commands.{PairBytes, Step, StepsKeepLife, StepsMigrateLife};
@@ -23,10 +23,11 @@ use esm_life::streams::{
 };
 use esm_redrive_run::stages::run_is_stage as redrive_is_stage;
 
-/// Over any list of commands, each begun on what the one before it left and each ended or stopped, refused words among them: what is
-/// left opens to the life that was found, with the stages that the commands added, in their order: one each at most, and one of each
-/// that ran a mapping. A run may be stopped at any moment since it opened its files; where a command is stopped before that, or a
-/// `compact` while it writes, the disks had to be synced when it began.
+/// Over any list of commands, refused words among them, each of which begins on what the one before it left, and ends or is
+/// stopped: what is left opens to the life that was found, with the stages that the commands added, in their order. Each
+/// command adds at most one, and a command that runs a mapping adds one if anything happened in it. A run may be stopped at
+/// any moment since it opened its files. If a command is stopped before that, or a `compact` while it writes, the disks must
+/// have been synced when it began.
 pub fn commands_keep_life<S: Source, K: Sink, D: Disk, C: Clock, F: Caller, L: Door>()
     ensures { (found : PairBytes) (steps : List (Step S K D C F L PairBytes)) (life : List Stage) (epoch : ℕ) →
         StepsKeepLife (devices C.Clock F.Caller D.Disk S.Source K.Sink L.Door L.Conn.Link) found steps life epoch }
@@ -41,8 +42,9 @@ pub fn commands_keep_life<S: Source, K: Sink, D: Disk, C: Clock, F: Caller, L: D
     compacted_life_goes_on::<D>();
 }
 
-/// So it is of a queue's files: the pair and the dead-letter file. What is left of that by a redrive is what it has at its end; and where
-/// a command is stopped before it opened its files, it had to be synced too.
+/// The same of a queue's files: the pair and the dead-letter file. A redrive leaves of the dead-letter file what it has at
+/// the redrive's end. If a command is stopped before it opened its files, that file too must have been synced when the
+/// command began.
 pub fn commands_keep_queue_life<S: Source, K: Sink, D: Disk, C: Clock, F: Caller, L: Door>()
     ensures { (fifo : Bool) (found : FileBytes) (steps : List (Step S K D C F L FileBytes)) (life : List QueueStage) (epoch : ℕ) →
         StepsKeepQueueLife (devices C.Clock F.Caller D.Disk S.Source K.Sink L.Door L.Conn.Link) fifo found steps life epoch }
@@ -57,9 +59,9 @@ pub fn commands_keep_queue_life<S: Source, K: Sink, D: Disk, C: Clock, F: Caller
     compacted_queue_goes_on::<D>();
 }
 
-/// Over any list of commands that began on a pair of version 1, of which each is `migrate` or one that writes no journal, refused words
-/// among them, and each ended, or was stopped at any moment where its disks were synced when it began: what is left opens to the same
-/// life, as the pair that it was or as one of version 2, over which the commands that follow keep it.
+/// Over any list of commands that begins on a pair of version 1, refused words among them, each of which is `migrate` or one
+/// that writes no journal, and ends, or is stopped at any moment if its disks were synced when it began: what is left opens
+/// to the same life, as the pair that it was or as one of version 2, over which the commands that follow keep it.
 pub fn migrations_keep_life<S: Source, K: Sink, D: Disk, C: Clock, F: Caller, L: Door>()
     ensures { (found : PairBytes) (steps : List (Step S K D C F L PairBytes)) (life : List Stage) (epoch : ℕ) →
         StepsMigrateLife (devices C.Clock F.Caller D.Disk S.Source K.Sink L.Door L.Conn.Link) found steps life epoch }
@@ -75,7 +77,7 @@ pub fn migrations_keep_life<S: Source, K: Sink, D: Disk, C: Clock, F: Caller, L:
     compacted_life_goes_on::<D>();
 }
 
-/// So it is of a queue's files.
+/// The same of a queue's files.
 pub fn migrations_keep_queue_life<S: Source, K: Sink, D: Disk, C: Clock, F: Caller, L: Door>()
     ensures { (fifo : Bool) (found : FileBytes) (steps : List (Step S K D C F L FileBytes)) (life : List QueueStage) (epoch : ℕ) →
         StepsMigrateQueueLife (devices C.Clock F.Caller D.Disk S.Source K.Sink L.Door L.Conn.Link) fifo found steps life epoch }

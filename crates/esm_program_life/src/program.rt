@@ -1,4 +1,4 @@
-// The whole program over the life of a mapping, a stream's or a queue's.
+// The whole program over the life of a mapping, of a stream's or of a queue's.
 ghost use Rattle.std.specs.Prelude.{◌≡◌, ℕ, Bool, List, [], length, map};
 ghost use Rattle.std.specs.String.{string_bytes};
 ghost use Rattle.esm_cli.specs.declared.command.Command.{Command};
@@ -28,8 +28,8 @@ use std::alloc::Global;
 use std::sync::Wait;
 use std::thread::Threads;
 
-/// Does what `esm` does, whose clauses are all that is known of it here: what it leaves of the life of a mapping, whatever the words
-/// spell and whatever status it answers.
+/// Calls `esm`, of which only the clauses are used here. States what it leaves of the life of a mapping, whatever the words
+/// spell and whatever status it returns.
 pub fn esm_keeps_life<
     R: Threads + Wait + Sync,
     S: Source + Send,
@@ -48,15 +48,15 @@ pub fn esm_keeps_life<
     requires trace { world.trace.items ≡ [] }
     ensures said { IsSaid (devices C.Clock F.Caller D.Disk S.Source K.Sink L.Door L.Conn.Link)
         (map string_bytes words.now) world result.world result.status }
-    // A command that runs a mapping ran it over files that it had opened, or nothing happened, and nothing was written.
+    // A command that runs a mapping ran it over files that it had opened; or nothing happened, and nothing was written.
     ensures runs { (c : Command) → SpellsBuilt (map string_bytes words.now) c →
         MayRun (devices C.Clock F.Caller D.Disk S.Source K.Sink L.Door L.Conn.Link) c world result.world result.status }
-    // Whatever a crash leaves of the journal and of its spare, at any moment since the files were opened, and since the call began
-    // where they were synced before, opens to the life that they held, or to it with the one stage that the command may add; where a
-    // mapping ran there is that stage.
+    // Whatever a crash leaves of the journal and its spare, at any moment since the files were opened, and since the call
+    // began if they were synced before, opens to the life that they held, or to it with the one stage that the command may
+    // add. If anything happened in the run of a mapping, that stage is there.
     ensures keeps { (c : Command) (life : List Stage) (epoch : ℕ) → SpellsBuilt (map string_bytes words.now) c →
         KeepsLife (devices C.Clock F.Caller D.Disk S.Source K.Sink L.Door L.Conn.Link) c world result.world result.status life epoch }
-    // Where no disk of them failed, and a mapping ran, all that happened stands in the journal.
+    // If no disk of them failed and a mapping ran, everything that happened is in the journal.
     ensures whole { (c : Command) (life : List Stage) (epoch : ℕ) → SpellsBuilt (map string_bytes words.now) c →
         KeepsWhole (devices C.Clock F.Caller D.Disk S.Source K.Sink L.Door L.Conn.Link) c world result.world result.status life epoch }
     // The same of a queue's mapping, and of its dead-letter file.
@@ -76,7 +76,7 @@ pub fn esm_keeps_life<
         CompactsLife (devices C.Clock F.Caller D.Disk S.Source K.Sink L.Door L.Conn.Link) world result.world result.status life epoch }
     ensures compacts_queue { (fifo : Bool) (life : List QueueStage) (epoch : ℕ) → SpellsBuilt (map string_bytes words.now) Compact →
         CompactsQueueLife (devices C.Clock F.Caller D.Disk S.Source K.Sink L.Door L.Conn.Link) fifo world result.world result.status life epoch }
-    // A life begins with `init`, and of a pair of version 1 it goes on with `migrate`.
+    // A life begins with `init`; if it has a pair of version 1, `migrate` continues it.
     ensures begins { SpellsBuilt (map string_bytes words.now) Init →
         BeginsLife (devices C.Clock F.Caller D.Disk S.Source K.Sink L.Door L.Conn.Link) world result.world result.status }
     ensures begins_queue { (fifo : Bool) → SpellsBuilt (map string_bytes words.now) Init →

@@ -1,4 +1,4 @@
-// That each command of the program keeps the life of a queue's mapping, or adds one stage to it.
+// Each command of the program keeps the life of a queue's mapping, or adds one stage to it.
 ghost use Rattle.std.specs.Prelude.{ℕ, Bool, List};
 ghost use Rattle.esm_cli.specs.declared.command.Command.{Command};
 ghost use Rattle.esm_cli.specs.declared.command.Command.TheVariants.{Compact, Init, Migrate};
@@ -20,7 +20,7 @@ use esm_life::redrives::{
 };
 use esm_redrive_run::stages::run_is_stage;
 
-/// A command that runs a queue's mapping ran it over files that it had opened, and what `esm` says of that run holds of them; or
+/// A command that runs a queue's mapping ran it over files that it had opened, and the clauses of `esm` hold of that run; or
 /// nothing happened, and nothing was written.
 pub fn command_runs_queue<S: Source, K: Sink, D: Disk, C: Clock, F: Caller, L: Door>()
     ensures { (words : List (List ℕ)) (old new : World S K D C F L) (status : ℕ) (c : Command) (fifo : Bool) →
@@ -30,12 +30,13 @@ pub fn command_runs_queue<S: Source, K: Sink, D: Disk, C: Clock, F: Caller, L: D
     one_command();
 }
 
-/// Whatever the words spell, and whatever status `esm` answers: what a crash leaves of the journal and of its spare, and of the
-/// dead-letter file opens to the life that they held before, or to it with one further stage, which is there wherever a mapping ran. For
-/// `run` that is a run with the history that the command left, over the messages that it read of its input; for `redrive` such a
-/// redrive; and for `compact` the list that it wrote. The mapping that the words name has to be a queue's, of one kind throughout, and
-/// the disks honest. So it is at any moment since a run's files were opened; and at any since the command began, where the disks were
-/// synced before; of the dead-letter file after a redrive at its end.
+/// Whatever the words spell, and whatever status `esm` returns: what a crash leaves of the journal, its spare and the
+/// dead-letter file opens to the life that they held before, or to it with one further stage, which is there if anything
+/// happened in the run of a mapping. For `run` this stage is a run with the history that the command left, over the messages
+/// that it read of its input; for `redrive` it is such a redrive; and for `compact` it is the list that it wrote. The
+/// mapping that the words name must be a queue's, of one kind throughout, and the disks must be honest. This holds of a
+/// crash at any moment since a run's files were opened, and since the command began if the disks were synced before; of the
+/// dead-letter file after a redrive, at the redrive's end.
 pub fn command_keeps_queue_life<S: Source, K: Sink, D: Disk, C: Clock, F: Caller, L: Door>()
     ensures { (words : List (List ℕ)) (old new : World S K D C F L) (status : ℕ) (c : Command) (fifo : Bool) (life : List Stage) (epoch : ℕ) →
         IsSaid (devices C.Clock F.Caller D.Disk S.Source K.Sink L.Door L.Conn.Link) words old new status → SpellsBuilt words c →
@@ -51,8 +52,9 @@ pub fn command_keeps_queue_life<S: Source, K: Sink, D: Disk, C: Clock, F: Caller
     compacted_life_goes_on::<D>();
 }
 
-/// Where none of the three disks failed, by their counts of faults or by the status, a command that ran a queue's mapping leaves its
-/// run whole: the disks themselves open to the life with all that happened, and a crash leaves nothing else.
+/// If none of the three disks failed, by their counts of faults or by the status, a command that runs a queue's mapping
+/// leaves its run whole: the disks themselves open to the life with everything that happened, and a crash leaves nothing
+/// else.
 pub fn command_keeps_queue_whole<S: Source, K: Sink, D: Disk, C: Clock, F: Caller, L: Door>()
     ensures { (words : List (List ℕ)) (old new : World S K D C F L) (status : ℕ) (c : Command) (fifo : Bool) (life : List Stage) (epoch : ℕ) →
         IsSaid (devices C.Clock F.Caller D.Disk S.Source K.Sink L.Door L.Conn.Link) words old new status → SpellsBuilt words c →
@@ -68,8 +70,8 @@ pub fn command_keeps_queue_whole<S: Source, K: Sink, D: Disk, C: Clock, F: Calle
     compacted_life_goes_on::<D>();
 }
 
-/// A `compact` that ended with 0 adds the list that it wrote, whatever a crash might have left of the journal's disks before: the files
-/// themselves open to the life with it, and a crash leaves nothing else of the journal.
+/// A `compact` that ended with 0 adds the list that it wrote, whatever a crash might have left of the journal's disks
+/// before: the files themselves open to the life with the list, and a crash leaves nothing else of the journal.
 pub fn compact_rewrites_queue_life<S: Source, K: Sink, D: Disk, C: Clock, F: Caller, L: Door>()
     ensures { (words : List (List ℕ)) (old new : World S K D C F L) (status : ℕ) (fifo : Bool) (life : List Stage) (epoch : ℕ) →
         IsSaid (devices C.Clock F.Caller D.Disk S.Source K.Sink L.Door L.Conn.Link) words old new status → SpellsBuilt words Compact →
@@ -78,7 +80,7 @@ pub fn compact_rewrites_queue_life<S: Source, K: Sink, D: Disk, C: Clock, F: Cal
     one_command();
 }
 
-/// Where the words spell no command, the life stays as it is.
+/// If the words spell no command, the life stays as it is.
 pub fn refusal_keeps_queue_life<S: Source, K: Sink, D: Disk, C: Clock, F: Caller, L: Door>()
     ensures { (words : List (List ℕ)) (old new : World S K D C F L) (status : ℕ) (fifo : Bool) (life : List Stage) (epoch : ℕ) →
         IsSaid (devices C.Clock F.Caller D.Disk S.Source K.Sink L.Door L.Conn.Link) words old new status →
@@ -96,8 +98,9 @@ pub fn init_begins_queue_life<S: Source, K: Sink, D: Disk, C: Clock, F: Caller, 
     life_begins::<D>();
 }
 
-/// Whatever a crash leaves of a pair of version 1 and of a dead-letter file beside it, at any moment since `migrate` began, opens to
-/// the life that they held: as the pair that it was, or with the next epoch as one of version 2.
+/// Whatever a crash leaves of a pair of version 1 and of a dead-letter file, at any moment since `migrate` began, opens to
+/// the life that they held: as the pair that it was, or as one of version 2 with the next epoch. The disks must be honest
+/// and have been synced before.
 pub fn migrate_keeps_queue_life<S: Source, K: Sink, D: Disk, C: Clock, F: Caller, L: Door>()
     ensures { (words : List (List ℕ)) (old new : World S K D C F L) (status : ℕ) (fifo : Bool) (life : List Stage) (epoch : ℕ) →
         IsSaid (devices C.Clock F.Caller D.Disk S.Source K.Sink L.Door L.Conn.Link) words old new status → SpellsBuilt words Migrate →

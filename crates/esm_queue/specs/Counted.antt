@@ -6,15 +6,15 @@ use Rattle.std.specs.BTreeMap.{BTreeMap, get}
 abbrev pub times : BTreeMap ℕ ℕ → ℕ → ℕ
 times counts v = unwrap_or (get nat_cmp counts v) 0
 
--- a moment that no place has is not in the map, but for one
+-- a moment that no place has is not in the map, except for one
 abbrev pub HasNoZeroBut : ℕ → BTreeMap ℕ ℕ → Type 0
 HasNoZeroBut ready counts = (v : ℕ) → get nat_cmp counts v ≡ Some 0 → v ≡ ready
 
--- no further one comes into it
+-- no further moment without a place gets into the map
 abbrev pub AddsNoZero : BTreeMap ℕ ℕ → BTreeMap ℕ ℕ → Type 0
 AddsNoZero old new = (v : ℕ) → get nat_cmp new v ≡ Some 0 → get nat_cmp old v ≡ Some 0
 
--- this one is not among them
+-- this moment is not in the map without a place
 abbrev pub LeavesNoZero : BTreeMap ℕ ℕ → ℕ → Type 0
 LeavesNoZero counts moment = get nat_cmp counts moment ≡ Some 0 → ⊥
 

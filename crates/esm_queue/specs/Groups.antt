@@ -15,6 +15,6 @@ pub record IsGrouped (messages : List Stored) (g : Groups) : Type 0 where
 abbrev pub IsHeadedBy : List ℕ → Groups → Type 0
 IsHeadedBy moments g = IsHeaded moments g.links.items g.heads.moments
 
--- so many more messages find room
+-- for how many more messages there is room
 abbrev pub room : Groups → ℕ
 room g = min (vec_capacity g.links - vec_len g.links) g.heads.spare

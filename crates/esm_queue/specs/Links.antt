@@ -6,7 +6,7 @@ use Rattle.esm_queue.specs.declared.links.Link.{Link}
 use Rattle.esm_queue.specs.declared.links.TheConstants.{NONE}
 use Rattle.esm_queue.specs.declared.moment_tree.TheConstants.{NEVER}
 
--- what stands beside a place that no message has
+-- the link of a place that no message has
 abbrev pub blank : Link
 blank = record { founder = NONE; next = NONE; prev = NONE; last = NONE; earlier = NONE }
 
@@ -38,7 +38,7 @@ with_prev links i prev = slice_set links i (record (link_at links i) { prev = pr
 abbrev pub with_last : List Link → ℕ → ℕ → List Link
 with_last links i last = slice_set links i (record (link_at links i) { last = last })
 
--- a message stands at the place that is not deleted
+-- the place has a message that is not deleted
 abbrev pub alive_at : List Stored → ℕ → Bool
 alive_at messages i = unwrap_or (option_map (λ (x : Stored). not x.deleted) (slice_get messages i)) false
 
@@ -50,14 +50,14 @@ group_in (Some x) = x.message.group
 abbrev pub group_at : List Stored → ℕ → Option (List ℕ)
 group_at messages i = group_in (slice_get messages i)
 
--- two messages have one founder exactly where they are of one group, which only in a FIFO queue any are
+-- two messages have the same founder if and only if the queue is FIFO and they are of one group
 pub record IsFounded (fifo : Bool) (messages : List Stored) (links : List Link) : Type 0 where
   pub sized : length links ≡ length messages
   pub low : (i : ℕ) → i < length messages → founder_at links i ≤ i
   pub founder : (i : ℕ) → i < length messages → founder_at links (founder_at links i) ≡ founder_at links i
   pub same : (i j : ℕ) → i < length messages → j < length messages → (i ≡ j → ⊥) → (fifo && is_group (group_at messages i) (group_at messages j)) ≡ (founder_at links i == founder_at links j)
 
--- the links pass from each message that is not deleted to the next and the one before of its group
+-- the links lead from each message that is not deleted to the next and the one before of its group
 pub record IsLinked (messages : List Stored) (links : List Link) : Type 0 where
   pub next_is : (i : ℕ) → alive_at messages i ≡ true → (next_at links i ≡ NONE → ⊥) → (i < next_at links i) × (alive_at messages (next_at links i) ≡ true) × (founder_at links (next_at links i) ≡ founder_at links i)
   pub next_low : (i j : ℕ) → alive_at messages i ≡ true → alive_at messages j ≡ true → founder_at links i ≡ founder_at links j → i < j → (next_at links i ≤ j) × (i < next_at links i)
@@ -66,8 +66,7 @@ pub record IsLinked (messages : List Stored) (links : List Link) : Type 0 where
   pub last_is : (f : ℕ) → f < length messages → (last_at links f ≡ NONE → ⊥) → (alive_at messages (last_at links f) ≡ true) × (founder_at links (last_at links f) ≡ f)
   pub last_high : (j : ℕ) → alive_at messages j ≡ true → (j ≤ last_at links (founder_at links j)) × (last_at links (founder_at links j) < length messages)
 
--- what the tree of heads has for a place: the moment of its message where that is the first of its group that is not
--- deleted
+-- what the tree of heads has for a place: the moment of its message if that is the first of its group that is not deleted
 abbrev pub head_moment : ℕ → ℕ → ℕ
 head_moment prev moment = if prev == NONE then moment else NEVER
 

@@ -5,12 +5,12 @@ use Rattle.esm_queue_model.specs.declared.stored.Stored.{Stored}
 use Rattle.esm_queue_model.specs.Queue.{show_after}
 use Rattle.esm_queue.specs.declared.moment_tree.TheConstants.{NEVER}
 
--- the moments, and how many more find room
+-- the moments, and for how many more there is room
 pub record Moments : Type 0 where
   pub moments : List ℕ
   pub spare : ℕ
 
--- the moments, how many more find room, and the moment that one of them may become without memory
+-- the moments, for how many more there is room, and the moment that a place may be set to without memory
 pub record Timed : Type 0 where
   pub moments : List ℕ
   pub spare : ℕ
@@ -27,7 +27,7 @@ pub record IsFirstAt (moments : List ℕ) (from at place : ℕ) : Type 0 where
 abbrev pub NoneAt : List ℕ → ℕ → ℕ → Type 0
 NoneAt moments from at = (i : ℕ) → from ≤ i → i < length moments → at < slice_index moments i
 
--- it is a moment at which something is, and not 0 or `NEVER`
+-- it is neither 0 nor `NEVER`
 abbrev pub is_set : ℕ → Bool
 is_set v = not (v == 0) && nat_lt v NEVER
 
@@ -35,7 +35,7 @@ is_set v = not (v == 0) && nat_lt v NEVER
 abbrev pub is_after : ℕ → ℕ → Bool
 is_after at v = nat_lt at v && nat_lt v NEVER
 
--- the moment of each message: that at which it shows, 0 where it was never received, and `NEVER` where it is deleted
+-- the moment of each message: that at which it shows, 0 if it was never received, and `NEVER` if it is deleted
 abbrev pub leaf : ℕ → Stored → ℕ
 leaf visibility x = if x.deleted then NEVER else show_after visibility x.last
 

@@ -2,7 +2,7 @@
 -- are the leaves. This product's own; cited by this crate's proofs alone.
 use Rattle.std.specs.Prelude.{◌≡◌, ℕ, ◌+◌, ◌*◌, ◌<◌, ◌≤◌, List, min, slice_index}
 
--- each inner node but one has the lesser of the two below it
+-- each inner node, except for one, has the lesser of the two below it
 abbrev pub HasLeast : ℕ → ℕ → List ℕ → Type 0
 HasLeast but width nodes = (k : ℕ) → 1 ≤ k → k < width → (k ≡ but → ⊥) → slice_index nodes k ≡ min (slice_index nodes (2 * k)) (slice_index nodes (2 * k + 1))
 

@@ -1,4 +1,4 @@
-// Copies of a queue's messages as their receiver sees them after a receipt.
+// Copies a queue's messages as their receiver sees them after a receipt.
 ghost use Rattle.std.specs.Prelude.{◌≡◌, ◌<◌, length, All, filter_map, IfOk};
 ghost use Rattle.esm_queue_model.specs.Queue.{seen_at, received_once};
 ghost use Rattle.esm_queue.specs.Receiving.{received_at};

@@ -27,7 +27,7 @@ fn shows_at(stored: &Stored, visibility_ms: u64) -> u64
     }
 }
 
-/// The moment at which the message shows, `NEVER` where it is deleted.
+/// The moment at which the message shows, `NEVER` if it is deleted.
 pub fn moment_of(stored: &Stored, visibility_ms: u64) -> u64
     ensures { result ≡ leaf visibility_ms stored.now }
 {
@@ -62,7 +62,7 @@ fn next_shown(messages: &[Stored], link: &Link, visibility_ms: u64, now: u64) ->
     None
 }
 
-/// The place is given, and the next one of its group, if there is one, waits.
+/// Removes the place, which is given, from those that wait; the next one of its group, if there is one, waits now.
 fn pass(waiting: &mut BTreeSet<u32>, place: u32, next: Option<u32>) -> Result<(), OutOfMemory>
     ensures { OnOk result ((k : ℕ) → contains nat_cmp waiting.new k ≡ (is_place next k || (contains nat_cmp waiting.old k && not (k == place)))) }
 {
@@ -73,8 +73,8 @@ fn pass(waiting: &mut BTreeSet<u32>, place: u32, next: Option<u32>) -> Result<()
     Ok(())
 }
 
-/// The first places, so many at most, of the messages that may be received at the moment. Each but the first of its
-/// group waits until the one before it is given, so that no other message is looked at.
+/// The first places, at most `max`, of the messages that may be received at the moment. Each but the first of its group
+/// waits until the one before it is given, so that no other message is looked at.
 pub fn first_places(
     alloc: Global,
     messages: &[Stored],

@@ -15,7 +15,7 @@ use esm_model::{OutOfMemory, Text};
 use esm_queue_model::Stored;
 use std::alloc::Global;
 
-/// The buckets of a FIFO queue's groups.
+/// The number of buckets of a FIFO queue's groups.
 const BUCKETS: usize = 65_536;
 
 /// The messages of a queue by their groups. In a standard queue each message is a group of its own.
@@ -25,18 +25,19 @@ pub struct Groups {
     pub links: Vec<Link>,
     /// In each bucket the last founder of a group whose name falls into it.
     pub buckets: Vec<u32>,
-    /// The moment at which a message shows that is the first of its group that is not deleted, `NEVER` for all others.
+    /// For each message that is the first of its group that is not deleted, the moment at which it shows; `NEVER` for all
+    /// others.
     pub heads: MomentTree,
 }
 
-/// The moment for the tree of heads.
+/// The moment for the tree of heads, of a message with `prev` before it in its group.
 fn head_moment(prev: u32, moment: u64) -> u64
     ensures { result ≡ head_moment prev moment }
 {
     if prev == NONE { moment } else { NEVER }
 }
 
-/// The founder whose last message goes with this one: none, where another one is behind it.
+/// The founder whose group has this message as its last one; `NONE` if another follows it.
 fn shortened(link: &Link) -> u32
     ensures { result ≡ (if link.now.next == NONE then link.now.founder else NONE) }
 {
@@ -47,7 +48,7 @@ fn shortened(link: &Link) -> u32
     }
 }
 
-/// The next message is the head of its group, where the one that goes was.
+/// Makes the next message the head of its group, if the one that goes was.
 fn pass_head(heads: &mut MomentTree, messages: &[Stored], link: &Link, visibility_ms: u64)
     requires { length heads.old.moments ≡ length messages.now }
     ensures moments { heads.new.moments ≡ slice_set heads.old.moments link.now.next
@@ -60,7 +61,7 @@ fn pass_head(heads: &mut MomentTree, messages: &[Stored], link: &Link, visibilit
     }
 }
 
-/// A founder enters its bucket.
+/// Puts the message at the place into the bucket, if it is a founder.
 fn enter(buckets: &mut Vec<u32>, bucket: usize, founder: u32, place: u32)
     requires { bucket < length buckets.old.items }
     ensures { buckets.new.items ≡ (if founder == place then slice_set buckets.old.items bucket place else buckets.old.items) }
@@ -88,7 +89,7 @@ impl Groups {
         })
     }
 
-    /// Room for so many more messages.
+    /// Reserves room for `n` more messages.
     pub fn reserve(&mut self, alloc: Global, n: u32) -> Result<(), OutOfMemory>
         requires few { length self.old.heads.moments ≤ u32.MAX }
         ensures kind { self.new.fifo ≡ self.old.fifo }
@@ -102,7 +103,7 @@ impl Groups {
         self.heads.reserve(alloc, n)
     }
 
-    /// The founder of the message that comes next, which is its own place where its group is new.
+    /// The founder of the message that comes next, which is its own place if its group is new.
     fn founder_for(&self, messages: &[Stored], group: &Option<Text>, place: u32) -> u32
         requires grouped { IsGrouped messages.now self.now }
         requires next { place ≡ length messages.now }
@@ -123,7 +124,7 @@ impl Groups {
         if found == NONE { place } else { found }
     }
 
-    /// One more message, of the group.
+    /// Appends a message of the group.
     pub fn append(&mut self, messages: &[Stored], group: &Option<Text>)
         requires grouped { IsGrouped messages.now self.old }
         requires few { length messages.now < u32.MAX }
@@ -152,7 +153,7 @@ impl Groups {
         self.heads.push(head_moment(prev, 0));
     }
 
-    /// The head at the place, if it is one, shows at another moment.
+    /// Sets the moment at which the message at the place shows, if it is a head.
     pub fn show(&mut self, place: u32, moment: u64)
         requires within { place < length self.old.links.items }
         requires sized { length self.old.heads.moments ≡ length self.old.links.items }
@@ -166,7 +167,7 @@ impl Groups {
         self.heads.set(place, moment);
     }
 
-    /// The message is deleted, and not before.
+    /// Takes a message out of its group that is deleted, and was not before.
     pub fn remove(&mut self, messages: &[Stored], place: u32, visibility_ms: u64)
         requires grouped { IsGrouped messages.now self.old }
         requires headed { IsHeadedBy (leaves visibility_ms messages.now) self.old }

@@ -3,25 +3,25 @@ ghost use Rattle.std.specs.Prelude.{◌≡◌};
 ghost use Rattle.std.specs.Vec.{vec_len, vec_capacity};
 ghost use Rattle.esm_queue.specs.Links.{with_next, with_prev, with_last, last_at};
 
-/// No place: `u32::MAX`, which is behind all places.
+/// No place: `u32::MAX`, which is above all places.
 pub const NONE: u32 = u32::MAX;
 
-/// What stands beside a message to find the others of its group. A group's founder is the place of its first message,
+/// What is kept beside a message to find the others of its group. A group's founder is the place of its first message,
 /// deleted or not; a message of no group is a group of its own.
 #[derive(Clone, Copy, Drop, Debug)]
 pub struct Link {
     pub founder: u32,
-    /// The next message of the group that is not deleted,
+    /// The next message of the group that is not deleted; of no meaning for a deleted message.
     pub next: u32,
-    /// and the one before; both tell nothing of a deleted message.
+    /// The one before, in the same way.
     pub prev: u32,
-    /// Beside a founder: the last message of its group that is not deleted,
+    /// For a founder, the last message of its group that is not deleted.
     pub last: u32,
-    /// and the founder before it in its bucket.
+    /// For a founder, the founder before it in its bucket.
     pub earlier: u32,
 }
 
-/// The message at the place, if there is one, has another next one.
+/// Sets the next message of the one at the place, if there is one.
 pub fn set_next(links: &mut Vec<Link>, place: u32, next: u32)
     ensures items { links.new.items ≡ with_next links.old.items place next }
     ensures len { vec_len links.new ≡ vec_len links.old }
@@ -32,7 +32,7 @@ pub fn set_next(links: &mut Vec<Link>, place: u32, next: u32)
     }
 }
 
-/// The message at the place, if there is one, has another one before it.
+/// Sets the message before the one at the place, if there is one.
 pub fn set_prev(links: &mut Vec<Link>, place: u32, prev: u32)
     ensures items { links.new.items ≡ with_prev links.old.items place prev }
     ensures len { vec_len links.new ≡ vec_len links.old }
@@ -43,7 +43,7 @@ pub fn set_prev(links: &mut Vec<Link>, place: u32, prev: u32)
     }
 }
 
-/// The group of the founder, if there is one, has another last message.
+/// Sets the last message of the founder's group, if there is one.
 pub fn set_last(links: &mut Vec<Link>, founder: u32, last: u32)
     ensures items { links.new.items ≡ with_last links.old.items founder last }
     ensures len { vec_len links.new ≡ vec_len links.old }
@@ -54,7 +54,7 @@ pub fn set_last(links: &mut Vec<Link>, founder: u32, last: u32)
     }
 }
 
-/// The last message of the founder's group that is not deleted, `NONE` where there is none.
+/// The last message of the founder's group that is not deleted, `NONE` if there is none.
 pub fn last_of(links: &[Link], founder: u32) -> u32
     ensures { result ≡ last_at links.now founder }
 {

@@ -1,4 +1,4 @@
-// Marking the receipt of messages of a queue, which hides them for the visibility timeout.
+// Marks the receipt of messages of a queue, which hides them for the visibility timeout.
 ghost use Rattle.std.specs.Prelude.{◌≡◌, ◌<◌, length, All};
 ghost use Rattle.esm_model.specs.Moment.{moment_after};
 ghost use Rattle.esm_queue_model.specs.Queue.{received_once, changed_from};
@@ -11,14 +11,14 @@ use crate::timeline::Timeline;
 use esm_model::MAX_MOMENT;
 use esm_queue_model::Stored;
 
-/// So many milliseconds after the moment; sums stop at `MAX_MOMENT`.
+/// The moment `milliseconds` after this one, at most `MAX_MOMENT`.
 pub fn moment_after(moment: u64, milliseconds: u64) -> u64
     ensures { result ≡ moment_after moment milliseconds }
 {
     moment.saturating_add(milliseconds).min(MAX_MOMENT)
 }
 
-/// One more receipt of the message.
+/// Counts one more receipt of the message.
 fn receive_one(stored: &mut Stored, now: u64)
     ensures { stored.new ≡ received_once now stored.old }
 {
@@ -27,7 +27,8 @@ fn receive_one(stored: &mut Stored, now: u64)
     stored.count = stored.count.saturating_add(1);
 }
 
-/// One more receipt of the messages at the places, which rise. Takes no memory: the moment at which they show is ready.
+/// Counts one more receipt of the messages at the places, which rise, and hides them. Takes no memory: the moment at which
+/// they show is ready.
 pub fn hide_all(
     messages: &mut [Stored],
     shows: &mut Timeline,

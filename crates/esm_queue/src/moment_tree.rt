@@ -11,15 +11,15 @@ use std::marker::Model;
 /// After every moment.
 pub const NEVER: u64 = u64::MAX;
 
-/// Moments by place. Above them stands a binary tree in which each node has the lesser of the two below it, so that the
-/// next place with a moment that is not after a given one is found without a look at the others.
+/// Moments by place. Above them is a binary tree in which each node has the lesser of the two below it, so that the next
+/// place with a moment that is not after a given one is found without a look at the others.
 #[derive(Drop, Debug)]
 pub struct MomentTree {
     /// The number of moments.
     len: usize,
-    /// The tree has so many levels above its leaves,
+    /// The number of levels above the leaves.
     height: u32,
-    /// and so many leaves; those without a moment have `NEVER`.
+    /// The number of leaves; those without a moment have `NEVER`.
     width: usize,
     /// Node 1 is the root, the nodes below node k are 2k and 2k + 1, and the leaves are the last `width` ones.
     nodes: Vec<u64>,
@@ -38,7 +38,7 @@ impl Model for MomentTree {
     ghost invariant = { λ t. IsTree t };
 }
 
-/// The leaf has another moment, and each node above it the lesser of the two below it.
+/// Sets the moment of the leaf, and gives each node above it the lesser of the two below it.
 fn set_leaf(nodes: &mut [u64], width: usize, place: usize, moment: u64)
     requires whole { length nodes.old ≡ width + width }
     requires within { place < width }
@@ -87,7 +87,7 @@ fn find_leaf(
     }
 }
 
-/// The least number of levels above so many leaves.
+/// The least number of levels above `leaves` leaves.
 fn height_for(leaves: usize) -> u32
     requires { leaves ≤ 2 ^ 33 }
     ensures low { result ≤ 33 }
@@ -101,7 +101,7 @@ fn height_for(leaves: usize) -> u32
     33
 }
 
-/// The number of leaves below so many levels.
+/// The number of leaves below `height` levels.
 fn width_of(height: u32) -> usize
     requires { height ≤ 33 }
     ensures width { result ≡ 2 ^ height }
@@ -111,7 +111,7 @@ fn width_of(height: u32) -> usize
     1 << height
 }
 
-/// The nodes of a tree with so many levels above its leaves, over the moments.
+/// The nodes of a tree with `width` leaves, over the moments.
 fn nodes_over(alloc: Global, moments: &[u64], width: usize) -> Result<Vec<u64>, OutOfMemory>
     requires some { 1 ≤ width }
     requires few { width ≤ 2 ^ 33 }
@@ -142,7 +142,7 @@ impl MomentTree {
         })
     }
 
-    /// Room for so many more moments.
+    /// Reserves room for `n` more moments.
     pub fn reserve(&mut self, alloc: Global, n: u32) -> Result<(), OutOfMemory>
         requires few { length self.old.moments ≤ u32.MAX }
         ensures moments { self.new.moments ≡ self.old.moments }
@@ -163,7 +163,7 @@ impl MomentTree {
         Ok(())
     }
 
-    /// One more moment, for which there is room.
+    /// Appends a moment, for which there is room.
     pub fn push(&mut self, moment: u64)
         requires { 0 < self.old.spare }
         ensures moments { self.new.moments ≡ self.old.moments ++ moment ∷ [] }
@@ -181,7 +181,7 @@ impl MomentTree {
         self.nodes[self.width + place as usize]
     }
 
-    /// Another moment at the place.
+    /// Sets the moment at the place.
     pub fn set(&mut self, place: u32, moment: u64)
         requires { place < length self.old.moments }
         ensures moments { self.new.moments ≡ slice_set self.old.moments place moment }

@@ -1,4 +1,4 @@
-// Finding a message group of a queue by its name, in buckets of the groups' first messages.
+// Finds a message group of a queue by its name, in buckets of the groups' first messages.
 ghost use Rattle.std.specs.Prelude.{◌≡◌, ℕ, ◌<◌, ◌≤◌, true, false, length};
 ghost use Rattle.esm_queue_model.specs.Queue.{is_group};
 ghost use Rattle.esm_queue.specs.declared.links.TheConstants.{NONE};
@@ -9,7 +9,7 @@ use crate::links::{Link, NONE};
 use esm_model::Text;
 use esm_queue_model::Stored;
 
-/// A number below 2^32 that is made of the bytes.
+/// A hash of the bytes, below 2^32.
 fn hash_of(name: &[u8]) -> u64
     ensures { result ≡ hash_of name.now }
 {
@@ -20,7 +20,7 @@ fn hash_of(name: &[u8]) -> u64
     hash
 }
 
-/// In which of so many buckets founders with the group's name stand.
+/// In which of `count` buckets founders with the group's name are.
 pub fn bucket_of(group: &Option<Text>, count: usize) -> usize
     requires { 0 < count }
     ensures result { result ≡ bucket_of count group.now }
@@ -32,7 +32,7 @@ pub fn bucket_of(group: &Option<Text>, count: usize) -> usize
     }
 }
 
-/// The message is of the group.
+/// Whether the message is of the group.
 fn is_of(stored: &Stored, group: &Option<Text>) -> bool
     ensures { result ≡ is_group stored.now.message.group group.now }
 {
@@ -42,7 +42,7 @@ fn is_of(stored: &Stored, group: &Option<Text>) -> bool
     }
 }
 
-/// The founder of the group, `NONE` where no message has its name.
+/// The founder of the group, `NONE` if no message has its name.
 pub fn founder_of(links: &[Link], buckets: &[u32], messages: &[Stored], group: &Option<Text>) -> u32
     requires founded { IsFounded true messages.now links.now }
     requires chained { IsChained (length buckets.now) messages.now links.now buckets.now }

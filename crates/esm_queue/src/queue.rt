@@ -25,7 +25,7 @@ use std::marker::Model;
 pub struct Queue {
     visibility_ms: u64,
     messages: Vec<Stored>,
-    /// The moment at which each message shows, `NEVER` where it is deleted.
+    /// The moment at which each message shows, `NEVER` if it is deleted.
     shows: Timeline,
     groups: Groups,
 }
@@ -64,7 +64,7 @@ impl Queue {
         })
     }
 
-    /// Memory for so many further messages: the next `n` calls of `came` find room. No message changes.
+    /// Reserves memory for `n` more messages: the next `n` calls of `came` do not return `OutOfMemory`. No message changes.
     pub fn reserve(&mut self, alloc: Global, n: u32) -> Result<(), OutOfMemory>
         ensures state { self.new.state ≡ self.old.state }
         ensures ok { OnOk result (n ≤ self.new.spare) }
@@ -75,15 +75,15 @@ impl Queue {
         self.groups.reserve(alloc, n)
     }
 
-    /// A message comes: its place. After `OutOfMemory`, which does not come within what `reserve` made, nothing has
-    /// changed.
+    /// Adds a message that comes, and returns its place. Within what `reserve` made it does not return `OutOfMemory`. After
+    /// `OutOfMemory` nothing has changed.
     pub fn came(&mut self, alloc: Global, message: Message, moment: u64) -> Result<u32, OutOfMemory>
         requires few { length self.old.state.messages < u32.MAX }
         ensures ok { OnOk result (self.new.state ≡ after_arrival message (capped_moment moment) self.old.state) }
         ensures place { IfOk result (λ place. place ≡ length self.old.state.messages) }
         ensures err { OnErr result (self.new.state ≡ self.old.state) }
 
-        // Within what was reserved it never refuses, and takes one of it.
+        // Within what was reserved it always succeeds, and uses one place of it.
         ensures succeeds { 0 < self.old.spare → IsOk result }
         ensures spare { self.old.spare ≤ self.new.spare + 1 }
     {
@@ -112,7 +112,7 @@ impl Queue {
         first_places(alloc, messages, &self.groups, self.visibility_ms, now, max)
     }
 
-    /// The places that `receive` would give: the first `max` eligible ones at the moment. Nothing changes.
+    /// The places that `receive` would return: the first `max` eligible ones at the moment. Nothing changes.
     pub fn peek(&self, alloc: Global, now: u64, max: u32) -> Result<Places, OutOfMemory>
         ensures { IfOk result (λ places. places ≡ receivable self.now.state (capped_moment now) max) }
     {
@@ -120,8 +120,8 @@ impl Queue {
         Ok(Places::from_vec(places))
     }
 
-    /// The first `max` messages that are neither deleted nor hidden and, in a FIFO queue, have no earlier one of their
-    /// group in flight. They are hidden from then on for the visibility timeout, and were received once more. After
+    /// Receives the first `max` messages that are neither deleted nor hidden and, in a FIFO queue, have no earlier one of
+    /// their group in flight. They are hidden from then on for the visibility timeout, and were received once more. After
     /// `OutOfMemory` nothing has changed.
     pub fn receive(
         &mut self,
@@ -142,7 +142,7 @@ impl Queue {
         Ok(given)
     }
 
-    /// Memory for a receipt at this moment: the next `hide` at it takes none. No message changes.
+    /// Prepares memory for a receipt at this moment: the next `hide` at it takes none. No message changes.
     pub fn prepare(&mut self, now: u64) -> Result<(), OutOfMemory>
         ensures ready { OnOk result (self.new.ready ≡ moments.moment_after (capped_moment now) self.old.state.visibility) }
         ensures state { self.new.state ≡ self.old.state }
@@ -170,7 +170,7 @@ impl Queue {
         );
     }
 
-    /// The message is deleted: whether it was not before. Takes no memory.
+    /// Deletes the message; returns whether it was not deleted before. Takes no memory.
     pub fn delete(&mut self, place: u32) -> bool
         requires known { place < length self.old.state.messages }
         ensures answer { result ≡ not (is_deleted_at self.old.state place) }
@@ -204,14 +204,14 @@ impl Queue {
         self.messages.len() as u32
     }
 
-    /// No message came. Takes no memory.
+    /// Whether no message came. Takes no memory.
     pub fn is_empty(&self) -> bool
         ensures { IsTrue result ↔ (self.now.state.messages ≡ []) }
     {
         self.messages.is_empty()
     }
 
-    /// The message at the place; `None` exactly where none has it. Takes no memory.
+    /// The message at the place; `None` if and only if none has it. Takes no memory.
     pub fn message(&self, place: u32) -> Option<&Message>
         ensures { option_copied result ≡ option_map (λ (x : Stored). x.message) (stored_at self.now.state place) }
     {
@@ -221,7 +221,7 @@ impl Queue {
         }
     }
 
-    /// The moment at which the message came; `None` exactly where none has the place. Takes no memory.
+    /// The moment at which the message came, in milliseconds; `None` if and only if none has the place. Takes no memory.
     pub fn arrival(&self, place: u32) -> Option<u64>
         ensures { result ≡ option_map (λ (x : Stored). x.came) (stored_at self.now.state place) }
     {
@@ -231,7 +231,7 @@ impl Queue {
         }
     }
 
-    /// How often the message was received; 0 where none has the place. Takes no memory.
+    /// How often the message was received; 0 if none has the place. Takes no memory.
     pub fn count(&self, place: u32) -> u32
         ensures { result ≡ count_at self.now.state place }
     {
@@ -241,8 +241,8 @@ impl Queue {
         }
     }
 
-    /// The moment of the message's first receipt; `None` where none has the place or it was never received. Takes no
-    /// memory.
+    /// The moment of the message's first receipt, in milliseconds; `None` if none has the place or it was never received.
+    /// Takes no memory.
     pub fn first(&self, place: u32) -> Option<u64>
         ensures { result ≡ first_at self.now.state place }
     {

@@ -15,14 +15,14 @@ use std::alloc::Global;
 use std::collections::BTreeMap;
 use std::marker::Model;
 
-/// Moments by place, and how many places have each, in order of moments. A place without a moment has 0 before its
-/// first, and `NEVER` for good.
+/// Moments by place, and how many places have each, in order of moments. A place has 0 before its first moment, and `NEVER`
+/// once it has none for good.
 #[derive(Drop, Debug)]
 pub struct Timeline {
     moments: Vec<u64>,
-    /// How many places have the moment, for each that one has, and for the one that is ready.
+    /// How many places have each moment that one has; the ready moment is in it too.
     counts: BTreeMap<u64, u32>,
-    /// The moment that a place may have without memory.
+    /// The moment that a place may be set to without memory.
     ready: u64,
 }
 
@@ -61,7 +61,7 @@ fn set_moment(moments: &mut Vec<u64>, place: u32, moment: u64)
     moments[place as usize] = moment;
 }
 
-/// One more place has the moment.
+/// Counts one more place with the moment.
 fn add_one(counts: &mut BTreeMap<u64, u32>, moment: u64) -> Result<(), OutOfMemory>
     requires few { times counts.old moment < u32.MAX }
     ensures ok { OnOk result ((v : ℕ) → times counts.new v ≡ (if is_set moment && (v == moment) then times counts.old v + 1 else times counts.old v)) }
@@ -79,7 +79,7 @@ fn add_one(counts: &mut BTreeMap<u64, u32>, moment: u64) -> Result<(), OutOfMemo
     Ok(())
 }
 
-/// One place less has the moment.
+/// Counts one place less with the moment.
 fn remove_one(counts: &mut BTreeMap<u64, u32>, moment: u64)
     ensures times { (v : ℕ) → times counts.new v ≡ (if is_set moment && (v == moment) then times counts.old v - 1 else times counts.old v) }
     ensures zero { AddsNoZero counts.old counts.new }
@@ -99,7 +99,7 @@ fn remove_one(counts: &mut BTreeMap<u64, u32>, moment: u64)
     }
 }
 
-/// The moment is in the map, be it of no place.
+/// Makes sure that the moment is in the map, even if no place has it.
 fn keep_key(counts: &mut BTreeMap<u64, u32>, moment: u64) -> Result<(), OutOfMemory>
     ensures times { (v : ℕ) → times counts.new v ≡ times counts.old v }
     ensures zero { (v : ℕ) → (v ≡ moment → ⊥) → get nat_cmp counts.new v ≡ Some 0 → get nat_cmp counts.old v ≡ Some 0 }
@@ -113,7 +113,7 @@ fn keep_key(counts: &mut BTreeMap<u64, u32>, moment: u64) -> Result<(), OutOfMem
     Ok(())
 }
 
-/// The moment is in the map, and no place has it.
+/// Whether the moment is in the map and no place has it.
 fn is_blank(counts: &BTreeMap<u64, u32>, moment: u64) -> bool
     ensures { IsTrue result ↔ (get nat_cmp counts.now moment ≡ Some 0) }
 {
@@ -123,7 +123,7 @@ fn is_blank(counts: &BTreeMap<u64, u32>, moment: u64) -> bool
     }
 }
 
-/// The moment is in the map only where some place has it.
+/// Removes the moment from the map, if no place has it.
 fn drop_blank(counts: &mut BTreeMap<u64, u32>, moment: u64)
     ensures times { (v : ℕ) → times counts.new v ≡ times counts.old v }
     ensures zero { AddsNoZero counts.old counts.new }
@@ -147,7 +147,7 @@ fn key_after(counts: &BTreeMap<u64, u32>, at: u64) -> Option<u64>
     }
 }
 
-/// The moment that is ready where a place had the moment `old`, and has it no more.
+/// The moment that is ready after a place lost the moment `old`: 0, which stands for none, if that was the ready one.
 fn still_ready(ready: u64, old: u64) -> u64
     ensures { result ≡ (if ready == old then 0 else ready) }
 {
@@ -166,7 +166,7 @@ impl Timeline {
         }
     }
 
-    /// Room for so many more places.
+    /// Reserves room for `n` more places.
     pub fn reserve(&mut self, n: u32) -> Result<(), OutOfMemory>
         ensures moments { self.new.moments ≡ self.old.moments }
         ensures ok { OnOk result (n ≤ self.new.spare) }
@@ -178,7 +178,7 @@ impl Timeline {
         Ok(())
     }
 
-    /// A place may have the moment from now on without memory.
+    /// Makes the moment ready: a place may be set to it without memory.
     pub fn prepare(&mut self, moment: u64) -> Result<(), OutOfMemory>
         requires { moment < NEVER }
         ensures ok { OnOk result (self.new.ready ≡ moment) }
@@ -194,7 +194,7 @@ impl Timeline {
         Ok(())
     }
 
-    /// One more place, with the moment 0 or `NEVER`.
+    /// Appends a place, with the moment 0 or `NEVER`.
     pub fn push(&mut self, moment: u64)
         requires room { 0 < self.old.spare }
         requires few { length self.old.moments < u32.MAX }
@@ -205,7 +205,7 @@ impl Timeline {
         self.moments.push_reserved(moment);
     }
 
-    /// Another moment at the place. It takes no memory where the moment is 0 or `NEVER`, or is ready, and then stays so.
+    /// Sets the moment at the place. Takes no memory if the moment is 0 or `NEVER`, or is ready; a ready one then stays so.
     pub fn set(&mut self, place: u32, moment: u64) -> Result<(), OutOfMemory>
         requires { place < length self.old.moments }
         ensures ok { OnOk result (self.new.moments ≡ slice_set self.old.moments place moment) }
@@ -225,7 +225,7 @@ impl Timeline {
         Ok(())
     }
 
-    /// The place has `NEVER`.
+    /// Sets the place to `NEVER`.
     pub fn clear(&mut self, place: u32)
         requires { place < length self.old.moments }
         ensures moments { self.new.moments ≡ slice_set self.old.moments place NEVER }

@@ -18,7 +18,7 @@ queue_calls_told setup sends history k = queue_calls (queue_setting_told setup h
 abbrev pub QueueRests : Setup → List Told → ℕ → Type 0
 QueueRests setup history k = is_running (entries_told history) (queue_lane k) ≡ false
 
--- the job is of the call that the batcher runs
+-- the job is that of the call that the batcher runs
 pub record RunsQueueJob (setup : Setup) (history : List Told) (k : ℕ) (job : Job) : Type 0 where
   pub lane : job.lane ≡ queue_lane k
   pub running : is_running (entries_told history) (queue_lane k) ≡ true

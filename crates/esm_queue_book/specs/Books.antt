@@ -1,4 +1,4 @@
--- What contracts see of a queue's book, and what its devices tell of its history. This product's own.
+-- What contracts see of a queue's book, and what its devices have of its history. This product's own.
 use Rattle.std.specs.Prelude.{◌≡◌, ◌++◌, ℕ, Bool, true, List, is_some}
 use Rattle.std.specs.List.{filter_map}
 use Rattle.std.specs.Coded.{Coded}
@@ -14,8 +14,8 @@ use Rattle.esm_book.specs.declared.nowhere.Nowhere.{Nowhere}
 use Rattle.esm_book.specs.State.{DurableState}
 use Rattle.esm_queue_core.specs.CoreView.{CoreView}
 
--- The core has what the history is judged over, the history with its newest entry first, and what was decided and is not
--- yet added. Beside it stand the journal as it is and as it was at opening, and why the book is down, where it is.
+-- The core has what the history is judged over, the history with its newest entry first, and what was decided and is not yet
+-- added. Beside it are the journal, as it is and as it was at opening, and why the book is down, if it is.
 abbrev pub BookState : Type 0 → Type 0
 BookState D = DurableState CoreView D Nowhere
 
@@ -40,14 +40,14 @@ payloads_in messages es = filter_map (queue_payload messages) es
 
 -- what a crash leaves
 
--- two disks, in whichever order, open to the payloads from before, and then to the first of these, or to all of them
+-- two disks, in either order, open to the payloads from before and then to a prefix of these
 pub record OpensToFirst (epoch : ℕ) (before payloads : List (List ℕ)) (one other : List ℕ) : Type 0 where
   pub front : List (List ℕ)
   pub rest : List (List ℕ)
   pub split : front ++ rest ≡ payloads
   pub opens : PairOpensTo (header_of 2) epoch (before ++ front) one other
 
--- whatever a crash left of both disks, each at any moment since the pair stood as before, opens so
+-- whatever a crash left of both disks, each at any moment since they were as before, opens in this way
 abbrev pub LeavesFirst : {D : Type 0} → DiskMeaning D → PairState D → PairState D → List (List ℕ) → Type 0
 LeavesFirst m pair pair' payloads =
     m.honest pair.used ≡ true → m.honest pair.spare ≡ true → (one other : List ℕ) →

@@ -22,7 +22,7 @@ pub record Added {D : Type 0} (messages : List Message) (old new : BookState D) 
   pub payloads : new.pair.payloads ≡ old.pair.payloads ++ payloads_in messages es
   pub found : new.found ≡ old.found
 
--- All that a call was to add was added; these are all messages that came. Where it added nothing, no disk was called.
+-- All that a call was to add was added; these are all messages that came. If it added nothing, no disk was called.
 pub record AddedAll {D : Type 0} (m : DiskMeaning D) (messages : List Message) (old new : BookState D) (es : List Entry) : Type 0 where
   pub added : Added messages old new es
   pub setting : new.core.setting ≡ over_messages old.core.setting messages
@@ -33,8 +33,8 @@ pub record AddedAll {D : Type 0} (m : DiskMeaning D) (messages : List Message) (
   pub kept : PairKeepsWhileUp m new.pair
   pub up : new.pair.down ≡ false
 
--- A disk failed before all of it was added: the rest is owed. The first of the rest was being written: its payload may stand
--- on the disk.
+-- A disk failed before all of it was added: the rest is owed. The first of the rest was being written: its payload may be on
+-- the disk.
 pub record AddedSome {D : Type 0} (m : DiskMeaning D) (messages : List Message) (old new : BookState D) (es : List Entry) : Type 0 where
   pub front : List Entry
   pub rest : List Entry
@@ -59,6 +59,6 @@ abbrev pub RunsCall : ℕ → List Entry → Next → Type 0
 RunsCall batcher h (next.Call job) = (job.lane ≡ queue_lane batcher) × IsRunningJob h job
 RunsCall batcher h _ = Unit {0}
 
--- nothing changed but that there may be memory for more payloads
+-- nothing changed, except that there may be memory for more payloads
 abbrev pub IsSame : {D : Type 0} → BookState D → BookState D → Type 0
 IsSame old new = new ≡ record old { pair = record old.pair { room = new.pair.room } }

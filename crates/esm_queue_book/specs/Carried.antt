@@ -38,7 +38,7 @@ entries_by v (call.Shut moment) = []
 entries_by v (call.Next batcher moment) = next_entries (next_for v.setting v.past batcher (moment_for v.past moment)) (moment_for v.past moment)
 entries_by v (call.Done job reply moment) = ended_entries v.setting v.past job.lane reply (moment_for v.past moment)
 
--- it is answered so
+-- this is its answer
 abbrev pub IsAnswer : CoreView → QueueCall → QueueAnswer → Type 0
 IsAnswer v (call.Came items moment) answer.Taken = Unit {0}
 IsAnswer v (call.Next batcher moment) (answer.Next next) = next ≡ next_for v.setting v.past batcher (moment_for v.past moment)

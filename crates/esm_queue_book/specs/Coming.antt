@@ -21,7 +21,7 @@ messages_in_items [] = []
 messages_in_items (Stream r ∷ items) = messages_in_items items
 messages_in_items (Queue m ∷ items) = m ∷ messages_in_items items
 
--- of the messages of a list that is to come, the first that was found deleted with another id differs so
+-- the change is that of the first message of a list that is to come that was found deleted with another id
 pub record QueueDiffers (setup : Setup) (history : List Told) (list : List Item) (change : Change) : Type 0 where
   pub position : ℕ
   pub message : Message

@@ -1,4 +1,4 @@
--- What is true of every queue's book, whoever made its calls. This product's own.
+-- What holds of every queue's book, whoever made its calls. This product's own.
 use Rattle.std.specs.Prelude.{◌≡◌, ◌++◌, ℕ, List, [], ◌∷◌, Option, Some, None, false, reverse}
 use Rattle.std.specs.List.{All}
 use Rattle.esm_io.specs.Meanings.{DiskMeaning}
@@ -17,29 +17,29 @@ use Rattle.esm_queue_core.specs.CoreView.{all_messages}
 use Rattle.esm_queue_core.specs.Told.{told_of, IsChange}
 use Rattle.esm_queue_book.specs.Books.{BookState, payloads_in}
 
--- the entry may follow the history, or a front of it after which calls and the input ended alone
+-- the entry may follow the history, or a prefix of it that only ends of calls and of the input follow
 abbrev pub MayFollowFront : QueueSetting → List Entry → Entry → Type 0
 MayFollowFront s h e = FollowsFront (λ before x. LegalQueue s (x ∷ before)) h e
 
--- The history is legal over the messages that came, each `Came` stands with those that it covers, and where the book is not
+-- The history is legal over the messages that came, each `Came` has those that it covers beside it, and if the book is not
 -- down the history is settled.
 pub record IsSound {D : Type 0} (b : BookState D) : Type 0 where
-  -- the messages that came are those that the history tells
+  -- the messages that came are those of the history
   pub messages : b.core.setting.messages ≡ messages_told (told_of b.core)
   pub of_queue : All (IsOfQueue b.core.setting.config.kind) (told_of b.core)
   pub legal : LegalQueue b.core.setting b.core.past
   pub settled : b.trouble ≡ None → SettledQueue b.core.setting b.core.past
   -- a book that is not down owes nothing
   pub none_owed : b.trouble ≡ None → b.core.owed ≡ []
-  -- where nothing is owed no message is coming
+  -- if nothing is owed no message is coming
   pub none_coming : b.core.owed ≡ [] → b.core.coming ≡ []
   -- the history has the same payloads over the messages that came alone
   pub stays : payloads_in (all_messages b.core) (reverse b.core.past) ≡ payloads_in b.core.setting.messages (reverse b.core.past)
-  -- and so has the entry that was being written, where a disk failed
+  -- and so has the entry that was being written, if a disk failed
   pub hand : payloads_in (all_messages b.core) (in_hand b.trouble b.core.owed) ≡ payloads_in b.core.setting.messages (in_hand b.trouble b.core.owed)
-  -- which may follow the history, or a front of it after which calls and the input ended alone
+  -- which may follow the history, or a prefix of it that only ends of calls and of the input follow
   pub hand_follows : (e : Entry) → in_hand b.trouble b.core.owed ≡ e ∷ [] → MayFollowFront b.core.setting b.core.past e
-  -- where a disk failed exactly one entry was being written, which has a payload
+  -- if a disk failed, exactly one entry was being written, and it has a payload
   pub hand_is_one : b.trouble ≡ Some Disk → (e : Entry) × (payload : List ℕ) × (in_hand b.trouble b.core.owed ≡ e ∷ []) × (queue_payload b.core.setting.messages e ≡ Some payload)
 
 -- the setup is that of the book, whatever it says of the journal
@@ -56,8 +56,8 @@ IsCause disk_failed o (Some Disk) = disk_failed
 IsCause disk_failed o (Some Dest) = ⊥
 IsCause disk_failed o (Some (Changed change)) = IsChange o change
 
--- The journal has what was found and then the payloads of the history. It is the pair that was opened, and down exactly where
--- a disk failed.
+-- The journal has what was found and then the payloads of the history. It is the pair that was opened, and is down if and
+-- only if a disk failed.
 pub record HasJournal {D : Type 0} (m : DiskMeaning D) (b : BookState D) : Type 0 where
   pub payloads : b.pair.payloads ≡ b.found.payloads ++ payloads_in (all_messages b.core) (reverse b.core.past)
   pub down : b.pair.down ≡ is_disk b.trouble
@@ -67,6 +67,6 @@ pub record HasJournal {D : Type 0} (m : DiskMeaning D) (b : BookState D) : Type 
   pub spare : b.pair.spare ≡ b.found.spare
   pub honesty : m.honest b.pair.used ≡ m.honest b.found.used
 
--- the entries whose payloads a crash may leave: those of the history, and where a disk failed the one that was being written
+-- the entries whose payloads a crash may leave: those of the history, and if a disk failed the one that was being written
 abbrev pub entries_left : {D : Type 0} → BookState D → List Entry
 entries_left b = reverse b.core.past ++ in_hand b.trouble b.core.owed

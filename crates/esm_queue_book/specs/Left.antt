@@ -28,7 +28,7 @@ pub record QueueFinished (setup : Setup) (history : List Told) (k : ℕ) : Type 
   pub shut : is_shut (entries_told history) ≡ true
   pub deleted : AllDeleted (queue_setting_told setup history) (entries_told history)
 
--- a message is left to it
+-- a message is left for it
 abbrev pub QueueLeft : Setup → List Told → ℕ → Type 0
 QueueLeft setup history k = HasWaiting (queue_setting_told setup history) (entries_told history)
 

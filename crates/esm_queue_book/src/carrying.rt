@@ -24,11 +24,11 @@ pub(crate) enum Stop {
     DiskFault,
     /// A message was found deleted and came with another id; nothing of the call was taken.
     Changed(Change),
-    /// Want of memory; nothing has changed but room that was made.
+    /// An allocation failed; nothing has changed, except that room may be reserved.
     OutOfMemory,
 }
 
-/// What is true of the core, and of the journal where the book is not down. Does nothing.
+/// What holds of the core, and of the journal if the book is not down. Does nothing.
 pub(crate) fn keeps<D: Disk>(durable: &Durable<QueueCore, D, Nowhere>)
     ensures messages { durable.now.core.setting.messages ≡ messages_told (told_of durable.now.core) }
     ensures rests { durable.now.core.owed ≡ [] → durable.now.core.coming ≡ [] }
@@ -76,7 +76,7 @@ pub(crate) fn carry<D: Disk>(
     }
 }
 
-/// Notes the end of a job's call, where the book is down: nothing that it calls for is added. Takes no memory.
+/// Notes the end of a job's call in a book that is down: nothing that it requires is added. Takes no memory.
 pub(crate) fn note_end<D: Disk>(
     durable: &mut Durable<QueueCore, D, Nowhere>,
     job: Job,
@@ -93,7 +93,7 @@ pub(crate) fn note_end<D: Disk>(
     keeps(durable);
 }
 
-/// Notes the end of the input, where the book is not down. Takes no memory.
+/// Notes the end of the input in a book that is not down. Takes no memory.
 pub(crate) fn note_shut<D: Disk>(durable: &mut Durable<QueueCore, D, Nowhere>, moment: u64)
     requires up { durable.old.trouble ≡ None }
     requires going { is_shut durable.old.core.past ≡ false }

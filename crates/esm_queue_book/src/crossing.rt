@@ -1,11 +1,11 @@
-//! A queue's book moves between threads where its disks do.
+//! A queue's book is `Send` if its disks are.
 
 use crate::queue_book::QueueBook;
 use esm_io::Disk;
 
 fn crosses<T: Send>() {}
 
-/// A queue's book moves between threads where its disks do.
+/// `QueueBook` is `Send` if its disks are.
 pub fn books_cross<D: Disk + Send>() {
     crosses::<QueueBook<D>>();
 }

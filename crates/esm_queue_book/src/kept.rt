@@ -1,4 +1,4 @@
-// A queue's book as threads hand it on.
+// A queue's book as threads pass it on.
 use crate::carrying::is_down;
 use crate::queue_book::QueueBook;
 use esm_io::Disk;

@@ -22,9 +22,9 @@ pub fn queue_batchers_begin()
     ensures items { (n : ℕ) → queue_items [] n ≡ [] }
 {}
 
-/// Where entries follow of which none is a batcher's, its calls are as before, with their event texts; it still rests
-/// where it did, still runs the call that it ran, and has still finished where it had. Calls that were spent still are,
-/// whoever's entries follow.
+/// If entries follow of which none is a batcher's, its calls are as before, with their event texts; if it rested it still
+/// does, it still runs the call that it ran, and if it had finished it still has. Calls that were spent still are, whoever
+/// adds the entries.
 pub fn queue_batchers_last()
     ensures calls { (s : Setup) (sends : List ℕ → List ℕ) (h es : List Told) (k : ℕ) → OthersFollow queue_author queue_may_follow s (k + 1) h es →
         queue_calls_told s sends (h ++ es) k ≡ queue_calls_told s sends h k }
@@ -40,7 +40,8 @@ pub fn queue_batchers_last()
     queue_calls_kept_over();
 }
 
-/// Where entries follow of which none is the reader's, no item comes and none is gone, and the input has ended where it had.
+/// If entries follow of which none is the reader's, no item comes and none is gone, and the input has ended if and only if
+/// it had.
 pub fn queue_items_last()
     ensures items { (s : Setup) (h es : List Told) → OthersFollow queue_author queue_may_follow s 0 h es →
         StayAsTheyAre (queue_items h) (queue_items (h ++ es)) }
@@ -48,7 +49,7 @@ pub fn queue_items_last()
         is_shut (entries_told (h ++ es)) ≡ is_shut (entries_told h) }
 {}
 
-/// Where a batcher has finished, no message is left to it.
+/// If a batcher has finished, no message is left for it.
 pub fn queue_over_or_left()
     ensures { (s : Setup) (h : List Told) (k : ℕ) → QueueFinished s h k → QueueLeft s h k → ⊥ }
 {}

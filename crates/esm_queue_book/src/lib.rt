@@ -1,6 +1,6 @@
-//! The durable book of a queue: messages come, batches are called, and what is deleted stands in the journal. Each call
-//! is one legal step of the history, and a crash at any moment leaves the payloads of whole entries alone.
-//! What it decides is `esm_queue_core`; how it is written is `esm_book`. No clock and no thread.
+//! The durable book of a queue: messages come, batches are called, and each deletion is written to the journal. Each call is
+//! one legal step of the history, and a crash at any moment leaves only the payloads of whole entries.
+//! `esm_queue_core` makes the decisions, and `esm_book` writes them. No clock and no thread.
 #![tactic(auto)]
 
 mod carrying;

@@ -19,7 +19,7 @@ use esm_model::{
 };
 use std::alloc::Global;
 
-/// What is true of the book's history, whoever made its calls. Does nothing.
+/// What holds of the book's history, whoever made its calls. Does nothing.
 fn know<D: Disk>(book: &QueueBook<D>)
     ensures sound { IsSound book.now }
     ensures legal { (setup : Setup) → IsSetupOf setup book.now → IsLegal (queue_may_follow setup) (told_of book.now.core) }

@@ -42,7 +42,7 @@ use std::alloc::Global;
 use std::marker::Model;
 use std::snapshot::Snapshot;
 
-/// What a queue's book is made of: its history, oldest entry first, and its journal; and why it is down, where it is.
+/// What a queue's book is made of: its history, oldest entry first, and its journal; and why it is down, if it is.
 #[derive(Drop)]
 pub struct QueueParts<D: Disk> {
     pub history: Vec<Entry>,
@@ -54,13 +54,12 @@ pub struct QueueParts<D: Disk> {
 /// in a journal of two files (Lambda Developer Guide, "Using Lambda with Amazon SQS"). After the first fault of a disk, or
 /// the first message that was found deleted and came with another id, it is down.
 ///
-/// Moments are in milliseconds since 1970; an entry has the moment that is handed in, or that of the last entry where that
-/// is later, and at most 9999-12-31T23:59:59.999Z. Places count messages in order of arrival.
+/// Moments are in milliseconds since 1970. An entry has the moment that is handed in, or that of the last entry if that is
+/// later, and at most 9999-12-31T23:59:59.999Z. Places count messages in order of arrival.
 #[derive(Drop)]
 pub struct QueueBook<D: Disk> {
     pub(crate) durable: Durable<QueueCore, D, Nowhere>,
-    /// How many messages the calls that run are of, while the book is up, for whoever watches the run. No contract speaks of
-    /// it.
+    /// How many messages are in running calls, while the book is up, for whoever watches the run. No contract speaks of it.
     pub(crate) in_calls: u64,
 }
 
@@ -93,7 +92,7 @@ fn open_over<D: Disk>(
     Ok(QueueCore::new(alloc, config, criteria, calls, visibility_ms, said)?)
 }
 
-/// How many messages the call is of, where a call is answered.
+/// How many messages are in the call that is answered; 0 if none is.
 fn called_by(next: &Next) -> u64 {
     match next {
         Next::Call(job) => job.places.as_slice().len() as u64,
@@ -102,9 +101,10 @@ fn called_by(next: &Next) -> u64 {
 }
 
 impl<D: Disk> QueueBook<D> {
-    /// A book in which no message came, for so many calls in all, with the deletions that the journal told of.
-    /// `BadPayload` exactly where a payload is bad for a book, with the index of the first such one. The journal is as
-    /// before, and a refusal hands it back.
+    /// Opens a book in which no message came, for `calls` calls in all, with the deletions that the journal names.
+    /// `visibility_ms` is the visibility timeout in milliseconds. Returns `BadPayload`, with the index of the first such
+    /// payload, if one is bad for a book, and `OutOfMemory` if an allocation failed. The journal is as before, and a refusal
+    /// returns it.
     pub fn open(
         alloc: Global,
         config: Config,
@@ -128,9 +128,10 @@ impl<D: Disk> QueueBook<D> {
         }
     }
 
-    /// Messages come: one `Came` where there are any, and then the deletion of those that fail the filter and were not
-    /// found deleted, where there are any. A list with a message that was found deleted with another id is refused
-    /// whole, and the first such message is told. After `DiskFault` the entries that were written before the fault stay.
+    /// Adds messages that come: one `Came` if there are any, and then the deletion of those that fail the filter and were
+    /// not found deleted, if there are any. A list with a message that was found deleted with another id is refused whole:
+    /// `StreamChanged` has the first such message. After `DiskFault` the entries that were written before the fault stay.
+    /// After either the book is down. `Down` is returned if and only if an earlier call found trouble.
     pub fn came(&mut self, alloc: Global, items: Vec<Message>, moment: u64) -> Result<(), CameError>
         requires may { MayCome self.old.core items.items }
         // What is added, and what a crash leaves.
@@ -138,7 +139,7 @@ impl<D: Disk> QueueBook<D> {
             (self.old.core.setting.messages ++ items.items) self.old self.new (came_entries self.old.core items.items moment)) }
         ensures stopped { IsErrOf result CameError.DiskFault → AddedSome (disk D.Disk)
             (self.old.core.setting.messages ++ items.items) self.old self.new (came_entries self.old.core items.items moment) }
-        // When each error comes, and what it leaves.
+        // When each error is returned, and what it leaves.
         ensures cause { IsErrOf result CameError.DiskFault → Rose (D.faults self.old.pair.used) (D.faults self.new.pair.used) }
         ensures changed { (change : Change) → IsErrOf result (CameError.StreamChanged change) →
             (self.old.trouble ≡ None) × IsFirstChange self.old.core items.items change
@@ -159,8 +160,8 @@ impl<D: Disk> QueueBook<D> {
         }
     }
 
-    /// The input ended. `Down` exactly where an earlier call found trouble, and no other error; the book is then as before.
-    /// Takes no memory.
+    /// Adds the end of the input. Returns `Down` if and only if an earlier call found trouble, and no other error; the book
+    /// is then as before. Takes no memory.
     pub fn shut(&mut self, moment: u64) -> Result<(), BookError>
         requires going { is_shut self.old.core.past ≡ false }
         ensures added { OnOk result (AddedOne self.old self.new (entry.Shut (moment_for self.old.core.past moment))) }
@@ -175,8 +176,8 @@ impl<D: Disk> QueueBook<D> {
         Ok(())
     }
 
-    /// What the batcher does next, by the first rule that holds; where that is a call, it begins. The batcher's lane is not
-    /// running.
+    /// Returns what the batcher does next, by the first rule that holds, and adds the call that begins, if it is one. No
+    /// call of the batcher's lane may be running.
     pub fn next(&mut self, alloc: Global, batcher: u32, moment: u64) -> Result<Next, BookError>
         requires rests { is_running self.old.core.past (queue_lane batcher) ≡ false }
         // What is answered and added, and what a crash leaves.
@@ -188,7 +189,7 @@ impl<D: Disk> QueueBook<D> {
             (next_entries (next_for self.old.core.setting self.old.core.past batcher (moment_for self.old.core.past moment))
             (moment_for self.old.core.past moment)) }
         ensures runs { IfOk result (RunsCall batcher self.new.core.past) }
-        // When each error comes, and what it leaves.
+        // When each error is returned, and what it leaves.
         ensures cause { IsErrOf result BookError.DiskFault → Rose (D.faults self.old.pair.used) (D.faults self.new.pair.used) }
         ensures no_dest { IsErrOf result BookError.DestFault → ⊥ }
         ensures down { IsErrOf result BookError.Down ↔ IsSome self.old.trouble }
@@ -210,9 +211,10 @@ impl<D: Disk> QueueBook<D> {
         }
     }
 
-    /// The job's call came to this reply: its `Ended`, and then the deletion of the messages that succeeded and are not
-    /// deleted, where there are any; answers their number (Lambda Developer Guide, "Implementing partial batch
-    /// responses"). On a book that is down the `Ended` alone is added. The job is its lane's running one.
+    /// Adds the end of the job's call with this reply: its `Ended`, and then the deletion of the messages that succeeded and
+    /// are not deleted, if there are any. Returns their number (Lambda Developer Guide, "Implementing partial batch
+    /// responses"). On a book that is down only the `Ended` is added, and `Down` is returned. The job is its lane's running
+    /// one.
     pub fn done(
         &mut self,
         alloc: Global,
@@ -229,7 +231,7 @@ impl<D: Disk> QueueBook<D> {
         ensures stopped { IsErrOf result BookError.DiskFault → AddedSome (disk D.Disk) self.old.core.setting.messages self.old self.new
             (ended_entries self.old.core.setting self.old.core.past job.lane reply (moment_for self.old.core.past moment)) }
         ensures noted { IsErrOf result BookError.Down → AddedOne self.old self.new (entry.Ended job.lane reply (moment_for self.old.core.past moment)) }
-        // When each error comes, and what it leaves.
+        // When each error is returned, and what it leaves.
         ensures cause { IsErrOf result BookError.DiskFault → Rose (D.faults self.old.pair.used) (D.faults self.new.pair.used) }
         ensures no_dest { IsErrOf result BookError.DestFault → ⊥ }
         ensures down { IsErrOf result BookError.Down ↔ IsSome self.old.trouble }
@@ -263,7 +265,7 @@ impl<D: Disk> QueueBook<D> {
         self.durable.core().is_shut()
     }
 
-    /// Whether all calls allowed were made, also of a book that is down. Takes no memory.
+    /// Whether all calls allowed were made, also if the book is down. Takes no memory.
     pub fn is_spent(&self) -> bool
         ensures { result ≡ (calls_begun self.now.core.past == self.now.core.setting.calls) }
     {
@@ -277,8 +279,8 @@ impl<D: Disk> QueueBook<D> {
         self.durable.core().is_over()
     }
 
-    /// The first fault or change that a call answered; `None` exactly where none did. Its clauses say what the type keeps
-    /// of any book, whoever made its calls. Takes no memory.
+    /// The first fault or change that a call returned; `None` if none did. Its clauses say what holds of any book, whoever
+    /// made its calls. Takes no memory.
     pub fn trouble(&self) -> Option<&Trouble>
         ensures value { option_copied result ≡ self.now.trouble }
         ensures cause { IsCause (Rose (D.faults self.now.found.used) (D.faults self.now.pair.used)) (opened self.now.core) self.now.trouble }
@@ -294,8 +296,8 @@ impl<D: Disk> QueueBook<D> {
         self.durable.trouble()
     }
 
-    /// What the disks leave since a moment at which nobody had opened them yet, where each had one image then, as after a
-    /// crash or a sync. Does nothing.
+    /// What a crash leaves of the disks since a moment before they were opened, if each had one image then, as after a crash
+    /// or a sync. `journal` and `spare` are the disks at that moment. Does nothing.
     pub fn since_before(&self, journal: &Snapshot<D>, spare: &Snapshot<D>)
         requires first { IsOnlyRead (disk D.Disk) journal.now.value (first_disk self.now.found) }
         requires second { IsOnlyRead (disk D.Disk) spare.now.value (second_disk self.now.found) }
@@ -308,7 +310,8 @@ impl<D: Disk> QueueBook<D> {
         self.durable.since_before(journal, spare);
     }
 
-    /// The history, the first fault or change that a call answered, and the journal, as the calls left them. Takes no memory.
+    /// The history, the first fault or change that a call returned, and the journal, as the calls left them. Takes no
+    /// memory.
     pub fn into_parts(self) -> QueueParts<D>
         ensures history { result.history.items ≡ reverse self.core.past }
         ensures trouble { result.trouble ≡ self.trouble }

@@ -41,7 +41,7 @@ batch_in c q m = longest (fits_in c q m) [] (eligible q m)
 abbrev pub came_in : QueueState → ℕ → ℕ
 came_in q i = unwrap_or (option_map (λ (x : Stored). x.came) (stored_at q i)) 0
 
--- the moment at which the batching window is over of a batch that begins with the message
+-- the moment at which the batching window of a batch that begins with the message is over
 abbrev pub window_of : Config → QueueState → ℕ → ℕ
 window_of c q i = moment_after (came_in q i) c.window_ms
 
@@ -49,7 +49,7 @@ abbrev pub window_in : Config → QueueState → List ℕ → Option ℕ
 window_in c q [] = None
 window_in c q (i ∷ places) = Some (window_of c q i)
 
--- the batch has so many of so many eligible messages: it is full or cut, or the window is over, or the input ended
+-- a batch of `count` of `all` eligible messages is ready: it is full or cut, or the window is over, or the input ended
 abbrev pub ready_test : ℕ → ℕ → ℕ → ℕ → Bool → ℕ → Bool
 ready_test size count all over shut m = (count == size) || nat_lt count all || nat_le over m || shut
 
@@ -58,15 +58,15 @@ ready_in c q shut m batch = ready_test c.batch_size (length batch) (length (elig
 
 -- what comes next
 
--- where no message waits
+-- if no message waits
 abbrev pub rest_of : Bool → ℕ → Next
 rest_of shut m = if shut then next.Finished else next.Idle (moment_after m 20)
 
--- the end of the pause where the window of a batch is over at the moment, if there is a batch
+-- the end of the pause, given the moment at which the window of a batch is over, if there is a batch
 abbrev pub pause_with : QueueState → ℕ → Option ℕ → ℕ
 pause_with q m over = unwrap_or (lesser_of (next_show q m) over) (moment_after m 20)
 
--- with this batch, where calls are left
+-- with this batch, if calls are left
 abbrev pub next_in : Config → QueueState → Bool → ℕ → ℕ → List ℕ → Next
 next_in c q shut k m [] = next.Idle (pause_with q m None)
 next_in c q shut k m (i ∷ places) =

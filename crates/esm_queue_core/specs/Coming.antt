@@ -16,7 +16,7 @@ use Rattle.esm_queue_core.specs.CoreView.{CoreView, moment_for}
 
 -- what is added
 
--- a deletion of the places, where there are any
+-- a deletion of the places, if there are any
 abbrev pub gave_entries : Option LaneId → List ℕ → Fate → ℕ → List Entry
 gave_entries by [] fate m = []
 gave_entries by (i ∷ places) fate m = Gave by 0 (i ∷ places) fate None None m ∷ []
@@ -25,7 +25,7 @@ gave_entries by (i ∷ places) fate m = Gave by 0 (i ∷ places) fate None None 
 abbrev pub is_refused_at : QueueSetting → ℕ → Message → Bool
 is_refused_at s k x = not (is_found s k) && is_refused_message s x
 
--- of the messages from place k on the places of those that do
+-- the places of those that do, of the messages from place k on
 abbrev pub refused_from : QueueSetting → ℕ → List Message → List ℕ
 refused_from s k [] = []
 refused_from s k (x ∷ xs) = if is_refused_at s k x then k ∷ refused_from s (k + 1) xs else refused_from s (k + 1) xs
@@ -69,7 +69,7 @@ pub record IsChangeOf (deletions : List FoundDeletion) (place : ℕ) (message : 
   pub kept : change.kept ≡ found.text
   pub given : change.given ≡ message.id
 
--- of the first message of a list that has changed
+-- the change of the first message of a list that has changed
 pub record IsFirstChange (v : CoreView) (items : List Message) (change : Change) : Type 0 where
   pub position : ℕ
   pub message : Message

@@ -1,4 +1,4 @@
--- What is seen of a core: what its history is judged over, the history, and what is decided and not yet added. This
+-- What contracts see of a core: what its history is judged over, the history, and what is decided and not yet added. This
 -- product's own.
 use Rattle.std.specs.Prelude.{◌≡◌, ℕ, max, List, [], ◌∷◌, ◌++◌, reverse, take, drop, true}
 use Rattle.esm_model.specs.Moment.{capped_moment}
@@ -11,8 +11,8 @@ use Rattle.esm_model.specs.Entries.{last_moment, last_call, batch_of, is_running
 use Rattle.esm_queue_model.specs.QueueSetting.{QueueSetting, ExtendsMessages, over_messages}
 use Rattle.esm_queue_model.specs.QueueStep.{LegalQueue, SettledQueue}
 
--- The setting has the messages that came, and the history its newest entry first. Messages are coming whose `Came` is owed;
--- the owed entries stand oldest first.
+-- The setting has the messages that came; the newest entry of the history is first, and the oldest of the owed ones.
+-- Messages are coming whose `Came` is owed.
 pub record CoreView : Type 0 where
   pub setting : QueueSetting
   pub past : List Entry
@@ -38,11 +38,11 @@ all_messages v = v.setting.messages ++ v.coming
 abbrev pub ahead : CoreView → List Entry
 ahead v = reverse v.owed ++ v.past
 
--- it is legal over all lists of messages that go on from those that came or are coming
+-- it is legal over all lists of messages that extend those that came or are coming
 abbrev pub LegalAhead : CoreView → Type 0
 LegalAhead v = (messages : List Message) → ExtendsMessages (all_messages v) messages → LegalQueue (over_messages v.setting messages) (ahead v)
 
--- and over all of them nothing is called for that is not owed
+-- and over all of them nothing is required that is not owed
 abbrev pub SettledAhead : CoreView → Type 0
 SettledAhead v = (messages : List Message) → ExtendsMessages (all_messages v) messages → SettledQueue (over_messages v.setting messages) (ahead v)
 
@@ -51,7 +51,7 @@ pub record IsRunningJob (h : List Entry) (job : Job) : Type 0 where
   pub runs : is_running h job.lane ≡ true
   pub places : job.places ≡ batch_of (last_call h job.lane)
 
--- what becomes of a core
+-- what calls make of a core
 
 -- entries are owed, and messages are coming
 abbrev pub owing : CoreView → List Message → List Entry → CoreView
@@ -70,6 +70,6 @@ paid v = record {
 abbrev pub forgotten : CoreView → CoreView
 forgotten v = record v { coming = []; owed = [] }
 
--- one more entry is added, and what it calls for is not
+-- one more entry is added, and what it requires is not
 abbrev pub noted : CoreView → Entry → CoreView
 noted v e = record v { past = e ∷ v.past }

@@ -10,10 +10,10 @@ use Rattle.esm_queue_model.specs.QueueSetting.{QueueSetting}
 use Rattle.esm_queue_model.specs.QueueStep.{owed_places}
 use Rattle.esm_queue_core.specs.Coming.{gave_entries}
 
--- the places that the end makes deleted: those that succeeded and are not deleted
+-- the places that the end deletes: those that succeeded and are not deleted
 abbrev pub ended_places : QueueSetting → List Entry → LaneId → Reply → ℕ → List ℕ
 ended_places s h lane reply m = owed_places s (Ended lane reply m ∷ h) lane
 
--- the end, and then the deletion, where there is any
+-- the end, and then the deletion, if there is one
 abbrev pub ended_entries : QueueSetting → List Entry → LaneId → Reply → ℕ → List Entry
 ended_entries s h lane reply m = Ended lane reply m ∷ gave_entries (Some lane) (ended_places s h lane reply m) Succeeded m

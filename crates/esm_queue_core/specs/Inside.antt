@@ -1,4 +1,4 @@
--- The view of a core, and what is true of each. Only this crate's proofs cite this.
+-- The view of a core, and what holds of each. Only this crate's proofs cite this.
 use Rattle.std.specs.Prelude.{length, reverse}
 use Rattle.std.specs.Vec.{vec_capacity}
 use Rattle.esm_queue_core.specs.declared.queue_core.QueueCore.TheInside.{Inside}

@@ -6,7 +6,7 @@ use Rattle.esm_filter.specs.declared.criteria.Criteria.{Criteria}
 use Rattle.esm_journal_state.specs.SaidLists.{SaidLists}
 use Rattle.esm_queue_model.specs.QueueSetting.{QueueSetting}
 
--- the setting has the deletions that were told, and the criteria are those of its filters
+-- the setting has the deletions that were found, and the criteria are those of its filters
 pub record IsJudgedBy (s : QueueSetting) (said : SaidLists) (criteria : Criteria) : Type 0 where
   pub deletions : s.deletions ≡ said.deletions
   pub judges : JudgesMessages s.config.kind s.config.filters criteria

@@ -160,7 +160,7 @@ CanAddFirst q coming (Some (Began lane places moment)) =
     (coming ≡ []) × (q.ready ≡ moment_after moment q.state.visibility) × (places ≡ receivable q.state moment (length places)) × (moment ≤ MAX_MOMENT)
 CanAddFirst q coming (Some (Ended lane reply moment)) = (coming ≡ []) × (moment ≤ MAX_MOMENT)
 
--- a deletion of messages of the list may be told
+-- a deletion of messages of the list may be written
 pub record MayBeGiven (messages : List Message) (places : List ℕ) (fate : Fate) (moment : ℕ) : Type 0 where
   pub within : All (λ i. i < length messages) places
   pub few : length places ≤ MAX_BATCH
@@ -179,8 +179,8 @@ IsGift messages (Some gift) = IsGiftOf messages gift
 
 -- legality
 
--- over the messages that came, and over those that are coming too: the history, that with all owed entries on it, and at
--- least as many as calls run
+-- what holds by how far more is decided: the history is legal and settled over the messages that came; with all owed entries
+-- it is so over those that are coming too; and `running` is at least the number of running calls
 abbrev pub StandsSo : QueueSetting → QueueSetting → List Entry → List Entry → ℕ → Standing → Type 0
 StandsSo own full h ahead running Whole = Sound own h × Sound full ahead × (length (running_lanes h) ≤ running)
 StandsSo own full h ahead running Paying = Sound full ahead × (length (running_lanes h) ≤ running)

@@ -34,19 +34,19 @@ is_all_deleted s h = is_nothing (waiting s h)
 
 -- the pause
 
--- the lesser of two moments, where there are any
+-- the lesser of two moments, if there are any
 abbrev pub lesser_of : Option ℕ → Option ℕ → Option ℕ
 lesser_of None other = other
 lesser_of (Some one) None = Some one
 lesser_of (Some one) (Some other) = Some (min one other)
 
--- the moment at which the batching window of a batch is over, where there is a batch
+-- the moment at which the batching window of a batch is over, if there is a batch
 abbrev pub window_end : QueueSetting → List Entry → List ℕ → Option ℕ
 window_end s h [] = None
 window_end s h (i ∷ places) = Some (moment_after (came_moment h 0 i) s.config.window_ms)
 
--- the least later moment at which a hidden message shows or the batching window is over, or 20 milliseconds later where
--- there is none
+-- the least later moment at which a hidden message shows or the batching window is over, or 20 milliseconds later if there
+-- is none
 abbrev pub pause_end : QueueSetting → List Entry → ℕ → List ℕ → ℕ
 pause_end s h m batch = unwrap_or (lesser_of (next_show (queue_of s h) m) (window_end s h batch)) (moment_after m 20)
 
@@ -59,13 +59,13 @@ next_batch s h k m (i ∷ places) =
     if is_queue_ready s h m then next.Call (job_of s h k (i ∷ places) m)
     else next.Idle (pause_end s h m (i ∷ places))
 
--- the calls allowed, where a message waits
+-- the calls allowed, if a message waits
 abbrev pub next_allowed : QueueSetting → List Entry → ℕ → ℕ → Next
 next_allowed s h k m =
     if nat_le s.calls (calls_begun h) then next.Spent
     else next_batch s h k m (queue_batch s h m)
 
--- of the batcher at the moment
+-- what the batcher does next at the moment
 abbrev pub next_for : QueueSetting → List Entry → ℕ → ℕ → Next
 next_for s h k m =
     if is_all_deleted s h then (if is_shut h then next.Finished else next.Idle (moment_after m 20))

@@ -1,4 +1,4 @@
--- What a queue is ready for where a call begins. Only this crate's proofs cite this.
+-- What a queue is ready for when a call begins. Only this crate's proofs cite this.
 use Rattle.std.specs.Prelude.{◌≡◌, ℕ, ⊤, Option, Some, None}
 use Rattle.esm_model.specs.Moment.{moment_after, capped_moment}
 use Rattle.esm_queue.specs.Held.{Held}

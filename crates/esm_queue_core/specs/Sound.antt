@@ -15,17 +15,17 @@ use Rattle.esm_queue_model.specs.QueueStep.{IsKeptMessage, MayBeginQueue, LegalQ
 use Rattle.esm_queue_core.specs.Coming.{refused_from}
 use Rattle.esm_queue_core.specs.Ending.{ended_places}
 
--- legal, and nothing is called for
+-- legal, and nothing more is required
 pub record Sound (s : QueueSetting) (h : List Entry) : Type 0 where
   pub legal : LegalQueue s h
   pub settled : SettledQueue s h
 
--- the history with a deletion of the places on it, where there are any
+-- the history with a deletion of the places on it, if there are any
 abbrev pub gave_on : Option LaneId → List ℕ → Fate → ℕ → List Entry → List Entry
 gave_on by [] fate m h = h
 gave_on by (i ∷ places) fate m h = Gave by 0 (i ∷ places) fate None None m ∷ h
 
--- these messages go on from those that came, and may come at the moment
+-- these messages extend those that came, and may come at the moment
 pub record Brings (s : QueueSetting) (h : List Entry) (old xs : List Message) (m : ℕ) : Type 0 where
   pub all : s.messages ≡ old ++ xs
   pub number : queue_count h ≡ length old

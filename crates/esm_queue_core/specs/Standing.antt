@@ -12,7 +12,7 @@ standing_paid Whole false = Whole
 standing_paid Paying true = Paying
 standing_paid Paying false = Whole
 
--- after what was owed is given up
+-- after what was owed is discarded
 abbrev pub standing_left : Standing → Standing
 standing_left Whole = Whole
 standing_left Paying = Left

@@ -1,4 +1,4 @@
--- A core's entries as a book over devices tells them, and what its calls decide. This product's own.
+-- A core's entries as a book over devices shows them, and what its calls decide. This product's own.
 use Rattle.std.specs.Prelude.{◌≡◌, ℕ, ◌+◌, ◌^◌, ◌<◌, ◌≤◌, List, [], ◌∷◌, ◌++◌, length, map, take, drop, reverse, Option, Some, None, false}
 use Rattle.std.specs.List.{All}
 use Rattle.esm_model.specs.declared.limits.TheConstants.{MAX_BATCH}
@@ -32,7 +32,7 @@ abbrev pub messages_of : List Message → Entry → List Message
 messages_of messages (Came shard first count moment) = take count (drop first messages)
 messages_of messages _ = []
 
--- with what is written of it
+-- the entry with these, and its payload
 abbrev pub queue_entry : List Message → Entry → QueueEntry
 queue_entry messages e = record { told = record { entry = e; records = []; messages = messages_of messages e }; payload = queue_payload messages e }
 
@@ -45,11 +45,11 @@ history_of v = queue_entries (all_messages v) v.past
 abbrev pub owed_of : CoreView → List QueueEntry
 owed_of v = queue_entries (all_messages v) v.owed
 
--- as threads hand them on
+-- as threads pass them
 abbrev pub told_entries : List Message → List Entry → List Told
 told_entries messages es = map (λ (x : QueueEntry). x.told) (queue_entries messages es)
 
--- the whole history so, its oldest entry first
+-- the whole history as threads pass it, its oldest entry first
 abbrev pub told_of : CoreView → List Told
 told_of v = told_entries (all_messages v) (reverse v.past)
 

@@ -1,4 +1,4 @@
-// What a list of messages brings.
+// Judges a list of messages that comes: which the filter refuses, and which differs from a found deletion.
 ghost use Rattle.std.specs.Prelude.{◌≡◌, ◌+◌, ◌<◌, ◌^◌, true, false, IfOk, IfSome, IfNone, length};
 ghost use Rattle.esm_queue_model.specs.QueueSetting.{QueueSetting};
 ghost use Rattle.esm_queue_core.specs.Coming.{is_refused_at, refused_from, has_changed, HasChangedFirst, NoneHasChanged, IsChangeOf};
@@ -61,8 +61,8 @@ fn differs(said: &Says, item: &Message, place: u32) -> bool
     }
 }
 
-/// The position of the first message of the list, from the place `from` on, that was found deleted with another id.
-/// Takes no memory.
+/// The position of the first message of the list that was found deleted with another id; the list begins at the place
+/// `from`. `None` if there is none. Takes no memory.
 pub fn first_changed(said: &Says, items: &[Message], from: u32) -> Option<usize>
     requires { from + length items.now < 2 ^ 32 }
     ensures some { IfSome result (λ j. j < length items.now) }
@@ -77,7 +77,7 @@ pub fn first_changed(said: &Says, items: &[Message], from: u32) -> Option<usize>
     None
 }
 
-/// What differs at the place.
+/// The change at the place: the id that was kept, and the one that came.
 pub fn change_at(
     alloc: Global,
     said: &Says,

@@ -29,18 +29,18 @@ pub enum QueueCall {
     Came(Vec<Message>, u64),
     /// The input ended.
     Shut(u64),
-    /// The batcher of this number asks what it is to do.
+    /// The batcher with this number asks what it does next.
     Next(u32, u64),
-    /// The job's call of the function came to this reply.
+    /// The job's call of the function ended with this reply.
     Done(Job, Reply, u64),
 }
 
-/// The answer of a call.
+/// The answer to a call.
 #[derive(Drop)]
 pub enum QueueAnswer {
     Taken,
     Next(Next),
-    /// So many messages are deleted.
+    /// How many messages are deleted.
     Deleted(u32),
 }
 

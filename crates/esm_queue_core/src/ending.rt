@@ -1,4 +1,4 @@
-// What an answer to a call makes deleted.
+// Which messages an answer to a call deletes.
 ghost use Rattle.std.specs.Prelude.{◌≡◌, ◌+◌, ◌<◌, not, IfOk, filter};
 ghost use Rattle.esm_model.specs.declared.verdict.QueueReading.{QueueReading};
 ghost use Rattle.esm_queue_model.specs.Queue.{is_deleted_at};

@@ -1,4 +1,4 @@
-// A deletion that is owed.
+// Makes a deletion that is owed, with its payload.
 ghost use Rattle.std.specs.Prelude.{◌≡◌, ◌+◌, ◌<◌, ◌++◌, Some, All, IfOk, length, slice_get};
 ghost use Rattle.esm_journal_record.specs.EntryPayload.{ids_at};
 ghost use Rattle.esm_queue_core.specs.Kept.{messages_stored, IsGift, MayBeGiven, gift_entries};
@@ -39,7 +39,7 @@ pub fn ids_at(
     Ok(ids)
 }
 
-/// The bytes of an id for which room is made.
+/// Room for an id, in bytes.
 const ID_ROOM: usize = 40;
 
 /// The ids of the messages at the places, in order, as parts of one text.
@@ -61,7 +61,7 @@ pub fn texts_at(
     ids.into_texts(alloc)
 }
 
-/// The deletion of the places, where there are any.
+/// The deletion of the places; `None` if there are none.
 pub(crate) fn gift_of(
     alloc: Global,
     queue: &Queue,

@@ -1,4 +1,4 @@
-//! The decisions of a queue's book, without its devices: which entry may come next, and what a batcher is to do.
+//! The decisions of a queue's book, without its devices: which entry may come next, and what a batcher does next.
 //! A core holds the history, the queue, and the entries that were decided and are not yet added, for all batchers.
 //! Pure: values in, values out. No device, clock or thread.
 #![tactic(auto)]

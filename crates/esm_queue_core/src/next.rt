@@ -1,4 +1,4 @@
-// What a batcher does next, from what is kept beside the history.
+// Decides what a batcher does next, from what is kept beside the history.
 ghost use Rattle.std.specs.Prelude.{◌≡◌, ◌+◌, ◌≤◌, [], All, IfOk, List, None, OnOk, length, take};
 ghost use Rattle.esm_model.specs.declared.moment.TheConstants.{MAX_MOMENT};
 ghost use Rattle.esm_model.specs.declared.entry.Entry.{Entry};
@@ -29,7 +29,7 @@ pub struct Counts {
     pub shut: bool,
 }
 
-/// What the batcher does next, by the first rule that holds. It looks at one eligible message more than a batch takes.
+/// What the batcher does next, by the first rule that holds. Looks at one eligible message more than a batch takes.
 pub fn decide_next(
     alloc: Global,
     config: &Config,
@@ -53,7 +53,7 @@ pub fn decide_next(
     decide_waiting(alloc, config, queue, counts.shut, batcher, now)
 }
 
-/// What a batcher does where no message waits.
+/// What a batcher does if no message waits.
 fn rest(shut: bool, now: u64) -> Next
     requires { now ≤ MAX_MOMENT }
     ensures { result ≡ rest_of shut now }
@@ -67,7 +67,7 @@ fn rest(shut: bool, now: u64) -> Next
     }
 }
 
-/// What the batcher does next where a message waits and calls are left.
+/// What the batcher does next if a message waits and calls are left.
 fn decide_waiting(
     alloc: Global,
     config: &Config,
@@ -97,7 +97,7 @@ fn decide_waiting(
     )
 }
 
-/// What the batcher does next with the first of the eligible messages, of which so many make a batch.
+/// What the batcher does next with `all`, the first of the eligible messages, of which the first make `batch`.
 fn choose(
     alloc: Global,
     config: &Config,
@@ -157,14 +157,14 @@ fn job_for(
     })
 }
 
-/// Whether a batch of so many of the eligible messages is called now.
+/// Whether a batch of `count` of the eligible messages is called now.
 fn is_ready(batch_size: u32, count: usize, all: usize, over: u64, shut: bool, now: u64) -> bool
     ensures { result ≡ ready_test batch_size count all over shut now }
 {
     count == batch_size as usize || count < all || over <= now || shut
 }
 
-/// The moment at which the batching window is over of a batch that begins with the message; sums stop at `MAX_MOMENT`.
+/// The moment at which the batching window of a batch that begins with the message is over, at most `MAX_MOMENT`.
 fn window_over(config: &Config, queue: &Queue, place: u32) -> u64
     ensures { result ≡ window_of config.now queue.now.state place }
 {
@@ -193,7 +193,7 @@ fn lesser(one: Option<u64>, other: Option<u64>) -> Option<u64>
     }
 }
 
-/// The call that begins by the answer, where one does.
+/// The call that begins, if the answer is one.
 pub fn began_by(alloc: Global, next: &Next, moment: u64) -> Result<Option<First>, OutOfMemory>
     ensures { IfOk result (λ first. IsBegunBy next.now moment first) }
 {
@@ -207,7 +207,7 @@ pub fn began_by(alloc: Global, next: &Next, moment: u64) -> Result<Option<First>
     }
 }
 
-/// Memory for the receipt of the call that begins at the moment, if one does. No message changes.
+/// Prepares memory for the receipt of the call that begins at the moment, if one does. No message changes.
 pub(crate) fn prepare_for(
     queue: &mut Queue,
     began: &Option<First>,

@@ -1,4 +1,4 @@
-// What an entry that is added does to the queue.
+// Applies an entry that is added to the queue.
 ghost use Rattle.std.specs.Prelude.{◌≡◌, ◌+◌, ◌<◌, ◌≤◌, ◌^◌, ◌++◌, All, length, if◌then◌else◌};
 ghost use Rattle.esm_model.specs.declared.moment.TheConstants.{MAX_MOMENT};
 ghost use Rattle.esm_queue_model.specs.Queue.{after_deletion};
@@ -12,7 +12,7 @@ use esm_model::Message;
 use esm_queue::Queue;
 use std::alloc::Global;
 
-/// A message comes, in room that is there: whether it was found deleted, and is deleted then.
+/// Adds a message that comes, in room that is there, and deletes it if it was found deleted. Returns whether it was.
 fn bring_one(queue: &mut Queue, alloc: Global, said: &Says, message: Message, moment: u64) -> bool
     requires room { 0 < queue.old.spare }
     requires few { length queue.old.state.messages + 1 < 2 ^ 32 }
@@ -36,7 +36,7 @@ fn bring_one(queue: &mut Queue, alloc: Global, said: &Says, message: Message, mo
     gone
 }
 
-/// The messages come, in room that is there; those that were found deleted are deleted: how many.
+/// Adds the messages that come, in room that is there, and deletes those that were found deleted. Returns how many were.
 pub(crate) fn bring(
     queue: &mut Queue,
     alloc: Global,
@@ -63,7 +63,7 @@ pub(crate) fn bring(
     deleted
 }
 
-/// Deletes the messages at the places: how many were not deleted before. Takes no memory.
+/// Deletes the messages at the places; returns how many were not deleted before. Takes no memory.
 pub(crate) fn delete_all(queue: &mut Queue, places: &[u32]) -> u32
     requires within { All (λ i. i < length queue.old.state.messages) places.now }
     requires few { length queue.old.state.messages < 2 ^ 32 }

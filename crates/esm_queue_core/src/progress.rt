@@ -3,7 +3,7 @@ use crate::queue_core::QueueCore;
 use esm_model::Progress;
 
 impl QueueCore {
-    /// How many messages came and are deleted. It tells of no call. Takes no memory.
+    /// How many messages came, and how many of them are deleted. Leaves the number in calls at 0. Takes no memory.
     pub fn progress(&self) -> Progress {
         Progress {
             came: u64::from(self.queue.len()),

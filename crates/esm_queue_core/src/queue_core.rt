@@ -47,16 +47,17 @@ use std::mem;
 /// The decisions of a queue's book, seen as what its history is judged over, the history, and the entries that were
 /// decided and are not yet added.
 ///
-/// Moments are in milliseconds since 1970; an entry has the moment that is handed in, or that of the last entry where
-/// that is later, and at most 9999-12-31T23:59:59.999Z. Places count messages in order of arrival.
-/// A history that would come to more than 2^40 entries is refused as want of memory, and so is each decision of a core
-/// that was left: of which a call of the function ended without what that calls for, or was forgotten when half added.
+/// Moments are in milliseconds since 1970. An entry has the moment that is handed in, or that of the last entry if that is
+/// later, and at most 9999-12-31T23:59:59.999Z. Places count messages in order of arrival.
+/// `OutOfMemory` is also the answer if the history, with what a call may owe and the ends of the running calls, would have
+/// more than 2^40 entries, and to each decision of a core that was left: one in which a call of the function ended without
+/// what that requires, whose input ended while entries were owed, or whose owed entries were discarded when some were added.
 #[derive(Drop)]
 pub struct QueueCore {
     config: Config,
     calls: u32,
     visibility_ms: u64,
-    /// What the journal told of deletions.
+    /// What the journal said of deletions at opening.
     said: Says,
     criteria: Criteria,
     pub(crate) queue: Queue,
@@ -98,7 +99,7 @@ fn is_fifo(kind: Kind) -> bool
     }
 }
 
-/// The moment that is noted: not before the last one.
+/// The moment of the next entry: not before the last one, and at most `MAX_MOMENT`.
 fn raised_to(last: u64, moment: u64) -> u64
     requires { last ≤ MAX_MOMENT }
     ensures value { result ≡ min (max moment last) MAX_MOMENT }
@@ -108,7 +109,7 @@ fn raised_to(last: u64, moment: u64) -> u64
     moment.max(last).min(MAX_MOMENT)
 }
 
-/// Room for what a call owes, for the ends of so many calls, and for the end of the input.
+/// Makes room for what a call owes, for the ends of `running` calls, and for the end of the input.
 fn make_room(history: &mut Vec<Entry>, running: usize) -> Result<(), OutOfMemory>
     requires { running < 2 ^ 62 }
     ensures items { history.new.items ≡ history.old.items }
@@ -119,7 +120,7 @@ fn make_room(history: &mut Vec<Entry>, running: usize) -> Result<(), OutOfMemory
     Ok(())
 }
 
-/// Whether a core decides: it was not left, and its history finds place for what it may owe.
+/// Whether a core decides: it was not left, and its history has room for what it may owe.
 fn may_decide(standing: Standing, entries: usize, running: usize) -> bool
     ensures whole { result ≡ true → standing ≡ Whole }
     ensures short { result ≡ true → entries + running + 3 ≤ 2 ^ 40 }
@@ -133,7 +134,7 @@ fn may_decide(standing: Standing, entries: usize, running: usize) -> bool
 }
 
 impl QueueCore {
-    /// A core in which no message came, for so many calls in all, with the deletions that the journal told of.
+    /// A core in which no message came, for `calls` calls in all, with the deletions that the journal named at opening.
     pub fn new(
         alloc: Global,
         config: Config,
@@ -168,9 +169,9 @@ impl QueueCore {
         })
     }
 
-    /// Decides on messages that come: one `Came` where there are any, and the deletion of those that fail the filter and
-    /// were not found deleted, where there are any. A list with a message that was found deleted with another id is
-    /// refused whole, and the first such message is told. After a refusal the core is as before.
+    /// Decides on messages that come: one `Came` if there are any, and the deletion of those that fail the filter and were
+    /// not found deleted, if there are any. A list with a message that was found deleted with another id is refused whole as
+    /// `Changed`, which has the first such message. After a refusal the core is as before.
     pub fn came(&mut self, alloc: Global, items: Vec<Message>, moment: u64) -> Result<(), Refusal>
         requires settled { self.old.owed ≡ [] }
         requires going { is_shut self.old.past ≡ false }
@@ -220,8 +221,9 @@ impl QueueCore {
         Ok(())
     }
 
-    /// What the batcher does next, by the first rule that holds; a call is owed (Lambda Developer Guide, "Using Lambda
-    /// with Amazon SQS"). The batcher's lane is not running. After `OutOfMemory` the core is as before.
+    /// Decides what the batcher does next, by the first rule that holds, and owes the call, if it is one (Lambda Developer
+    /// Guide, "Using Lambda with Amazon SQS"). No call of the batcher's lane may be running. After `OutOfMemory` the core is
+    /// as before.
     pub fn next(&mut self, alloc: Global, batcher: u32, moment: u64) -> Result<Next, OutOfMemory>
         requires settled { self.old.owed ≡ [] }
         requires rests { is_running self.old.past (queue_lane batcher) ≡ false }
@@ -250,9 +252,9 @@ impl QueueCore {
         Ok(next)
     }
 
-    /// Decides what the end of the job calls for: its `Ended`, and the deletion of the messages that succeeded and are not
-    /// deleted, where there are any; answers their number (Lambda Developer Guide, "Implementing partial batch
-    /// responses"). After `OutOfMemory` the core is as before, and the job and the reply are dropped.
+    /// Decides what the end of the job requires: its `Ended`, and the deletion of the messages that succeeded and are not
+    /// deleted, if there are any. Returns their number (Lambda Developer Guide, "Implementing partial batch responses").
+    /// After `OutOfMemory` the core is as before, and the job and the reply are dropped.
     pub fn done(
         &mut self,
         alloc: Global,
@@ -290,7 +292,8 @@ impl QueueCore {
         Ok(count)
     }
 
-    /// Gives up what is owed. Takes no memory.
+    /// Discards what is owed. This rolls back a decision of which no entry was added; if some were added, nothing more is
+    /// decided. Takes no memory.
     pub fn forget(&mut self)
         ensures { self.new ≡ forgotten self.old }
     {
@@ -380,7 +383,7 @@ impl QueueCore {
         }
     }
 
-    /// Notes that the job ended, where nothing that this calls for is added any more. Takes no memory.
+    /// Notes the end of the job's call, when nothing that it requires is added any more. Takes no memory.
     pub fn note_ended(&mut self, job: Job, reply: Reply, moment: u64)
         requires { IsRunningJob self.old.past job }
         ensures { self.new ≡ noted self.old (Entry.Ended job.lane reply (moment_for self.old.past moment)) }
@@ -395,7 +398,8 @@ impl QueueCore {
         self.standing = Standing::Left;
     }
 
-    /// Notes that the input ended. Takes no memory: every other call leaves room for this entry.
+    /// Notes that the input ended. If entries are owed then, nothing more is decided. Takes no memory: every other call
+    /// leaves room for this entry.
     pub fn shut(&mut self, moment: u64)
         requires { is_shut self.old.past ≡ false }
         ensures { self.new ≡ noted self.old (Entry.Shut (moment_for self.old.past moment)) }
@@ -421,7 +425,7 @@ impl QueueCore {
         self.begun == self.calls as u64
     }
 
-    /// Whether every message that came is deleted, by a history that is legal. Takes no memory.
+    /// Whether every message that came is deleted, if the history is legal. Takes no memory.
     pub fn is_over(&self) -> bool
         ensures { LegalQueue self.now.setting self.now.past → result ≡ is_all_deleted self.now.setting self.now.past }
     {
@@ -450,7 +454,7 @@ impl QueueCore {
         Ok(lengths)
     }
 
-    /// The payload of the first owed entry, where it has one. Takes no memory.
+    /// The payload of the first owed entry, if it has one. Takes no memory.
     pub fn first_payload(&self) -> Option<&[u8]>
         requires { 0 < length self.now.owed }
         ensures payload { IfSome result (λ bytes. written_of (queue_payload (all_messages self.entry.now)) (take 1 self.entry.now.owed) ≡ bytes.now ∷ []) }
@@ -463,8 +467,8 @@ impl QueueCore {
         }
     }
 
-    /// What is true of every core, whoever made its calls: it is of a queue, the messages that came are those that its history
-    /// tells, none is coming where nothing is owed, and no moment is past the last one. Does nothing.
+    /// What holds of every core, whoever made its calls: it is of a queue, the messages that came are those of its history,
+    /// none is coming if nothing is owed, and no moment is above `MAX_MOMENT`. Does nothing.
     pub fn keeps(&self)
         ensures queue { is_stream self.now.setting.config.kind ≡ false }
         ensures messages { self.now.setting.messages ≡ messages_told (told_of self.now) }

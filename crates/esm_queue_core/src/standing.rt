@@ -1,4 +1,4 @@
-// How far the core of a queue's book can still decide, after an owed entry is paid, given up or left.
+// How far the core of a queue's book can still decide, after an owed entry is paid, discarded or left.
 ghost use Rattle.std.specs.Prelude.{◌≡◌};
 ghost use Rattle.esm_queue_core.specs.Standing.{standing_paid, standing_left, standing_shut};
 
@@ -11,12 +11,12 @@ pub(crate) enum Standing {
     Whole,
     /// Some of the owed entries were added: with the others the history is legal and settled.
     Paying,
-    /// What the history calls for was left: nothing more is decided.
+    /// What the history requires was left: nothing more is decided.
     Left,
 }
 
 impl Standing {
-    /// After an owed entry was added; `more` tells that another is owed.
+    /// After an owed entry was added; `more` says that another is owed.
     pub(crate) fn paid(self, more: bool) -> Standing
         ensures { result ≡ standing_paid self more }
     {
@@ -27,7 +27,7 @@ impl Standing {
         }
     }
 
-    /// After what was owed is given up.
+    /// After what was owed is discarded.
     pub(crate) fn forgotten(self) -> Standing
         ensures { result ≡ standing_left self }
     {

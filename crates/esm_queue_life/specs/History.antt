@@ -1,6 +1,6 @@
--- What one legal history of a queue says of its calls and of its deletions. A history is written newest entry first. Source: the
--- Lambda Developer Guide, "Using Lambda with Amazon SQS" (a message is deleted once its batch, or in a partial batch response the
--- message, succeeded, and where it does not pass the filter).
+-- What one legal history of a queue says of its calls and of its deletions. A history is written newest entry first. Source:
+-- the Lambda Developer Guide, "Using Lambda with Amazon SQS" (a message is deleted once its batch, or in a partial batch
+-- response the message, succeeded, and if it does not pass the filter).
 use Rattle.std.specs.Prelude.{◌≡◌, ◌∷◌, ◌++◌, ℕ, false, IsTrue, List, Option, Some, None}
 use Rattle.esm_model.specs.declared.entry.Entry.{Entry}
 use Rattle.esm_model.specs.declared.entry.Entry.TheVariants.{Began, Ended, Gave}
@@ -37,14 +37,14 @@ pub record IsRefused (s : QueueSetting) (i : ℕ) : Type 0 where
   pub at : message_at s i ≡ Some message
   pub fails : passes_message s.config.filters message ≡ false
 
--- the rule of each fate: a message succeeded where the lane that deletes it had such a reply, and it was filtered where it does not
--- pass; a run gives no other fate
+-- the rule of each fate: a message succeeded if the lane that deletes it had such a reply, and it was filtered if it does
+-- not pass; a run gives no other fate
 abbrev pub IsEarned : QueueSetting → List Entry → Option LaneId → ℕ → Fate → Type 0
 IsEarned s h (Some lane) i Succeeded = IsAnswered s h lane i
 IsEarned s h None i Filtered = IsRefused s i
 IsEarned s h by i fate = ⊥
 
--- each deletion is earned by what stands before it
+-- each deletion is earned by the history before it
 abbrev pub EachGiftIsEarned : QueueSetting → List Entry → Type 0
 EachGiftIsEarned s h =
     (later before : List Entry) (by : Option LaneId) (shard : ℕ) (places : List ℕ) (f : Fate) (line : Option (List ℕ)) (state : Option WindowState) (m : ℕ) → h ≡ later ++ Gave by shard places f line state m ∷ before

@@ -1,5 +1,5 @@
--- The life of a queue's mapping: its runs and its redrives, however each stopped, and what was written in place of its journal's
--- content between them. What came last stands first. This product's own.
+-- The life of a queue's mapping: its runs and its redrives, however each stopped, and what was written in place of its
+-- journal's content between them. The last stage is first. This product's own.
 use Rattle.std.specs.Prelude.{◌≡◌, ◌⊎◌, ◌+◌, ◌<◌, ◌≤◌, ℕ, Bool, true, IsTrue, IsSome, List, [], ◌∷◌, ◌++◌, Option, Some, None, is_some, option_map, reverse, if◌then◌else◌}
 use Rattle.std.specs.List.{list_all}
 use Rattle.esm_book.specs.Hand.{is_end}
@@ -58,7 +58,8 @@ dead_lines (Rewritten list ∷ stages) = dead_lines stages
 
 -- what a run may leave
 
--- an entry was in hand when a disk failed: it may follow a front of what happened, after which calls and the input ended alone
+-- an entry was in hand when a disk failed: it may follow a prefix of what happened that only ends of calls and of the input
+-- follow
 pub record HasHand (happened recorded : List Entry) : Type 0 where
   pub hand : Entry
   pub before : List Entry
@@ -67,7 +68,7 @@ pub record HasHand (happened recorded : List Entry) : Type 0 where
   pub happened_is : happened ≡ later ++ before
   pub ends : list_all is_end later ≡ true
 
--- the journal kept a front of what happened, or that and the entry in hand
+-- the journal kept a prefix of what happened, or that and the entry in hand
 abbrev pub IsRecorded : (happened recorded : List Entry) → Type 0
 IsRecorded happened recorded = ((lost : List Entry) × (happened ≡ lost ++ recorded)) ⊎ HasHand happened recorded
 
@@ -107,7 +108,7 @@ AreRewritten (Rewritten list ∷ stages) = AreRewritten stages
 
 -- laws
 
--- a deletion that the content says it says for ever, with its fate and the id of its message
+-- a deletion that the content has stays in it, with its fate and the id of its message
 abbrev pub DeletionStays : (later before : List Stage) → Type 0
 DeletionStays later before = (i : ℕ) (k : KeptFate) → deletion_in (content before) i ≡ Some k → deletion_in (content (later ++ before)) i ≡ Some k
 
@@ -120,12 +121,12 @@ abbrev pub deletions_naming : List Said → ℕ → ℕ
 deletions_naming [] i = 0
 deletions_naming (s ∷ h) i = deletions_after i (deletions_naming h i) s
 
--- one payload of the content at most says of a message that it was deleted
+-- at most one payload of the content says of a message that it was deleted
 abbrev pub EachDeletedOnce : List Stage → Type 0
 EachDeletedOnce life = (i : ℕ) → deletions_naming (history (reverse (content life))) i ≤ 1
 
--- The run deleted the message at the place with this fate, which was earned by what had happened in it before; and the payload
--- has the id of the message.
+-- The run deleted the message at the place with this fate, which was earned by what had happened in it before; and the
+-- payload has the id of the message.
 pub record IsGivenIn (r : Run) (i : ℕ) (k : KeptFate) : Type 0 where
   pub later : List Entry
   pub before : List Entry
@@ -147,7 +148,7 @@ pub record IsGivenIn (r : Run) (i : ℕ) (k : KeptFate) : Type 0 where
 abbrev pub EachIsEarned : Run → List Stage → Type 0
 EachIsEarned r before = (i : ℕ) (k : KeptFate) → deletion_in (content before) i ≡ None → deletion_in (content (Ran r ∷ before)) i ≡ Some k → IsGivenIn r i k
 
--- the rule of each fate in a redrive: a message was moved where it was received as often as it may be, or its line stood in the
+-- the rule of each fate in a redrive: a message was moved if it was received as often as it may be, or its line was in the
 -- dead-letter file before; and it succeeded or was filtered as in a run
 abbrev pub IsEarnedInRedrive : Bool → Redrive → List Stage → (h : List Entry) → Option LaneId → ℕ → Message → Fate → Type 0
 IsEarnedInRedrive fifo r life h by i m Exhausted = (receives r.happened i ≡ r.setting.max_receives) ⊎ (stands_among (dead_ids fifo (dead_lines life)) m.id ≡ true)
@@ -189,8 +190,8 @@ NoneIsCalledAgain r before =
     → (i : ℕ) → IsTrue (holds places i)
     → (deletion_in (content before) i ≡ None) × (given earlier 0 i ≡ None)
 
--- a call of the run holds a message of a group only where the deletion of each earlier one of the group was recorded when the run
--- began, or the run deleted it before the call, or it is in the batch too
+-- a call of the run holds a message of a group only if the deletion of each earlier one of the group was recorded when the
+-- run began, or the run deleted it before the call, or it is in the batch too
 abbrev pub GroupsInOrder : Run → List Stage → Type 0
 GroupsInOrder r before =
     (later earlier : List Entry) (lane : LaneId) (places : List ℕ) (closing : Option ℕ) (m : ℕ) → r.happened ≡ later ++ Began lane places closing m ∷ earlier

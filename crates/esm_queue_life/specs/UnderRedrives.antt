@@ -9,14 +9,14 @@ use Rattle.esm_redrive_life.specs.Content.{content_after, deletion_in}
 use Rattle.esm_redrive_life.specs.Life.{IsLife as IsRedriveLife, Redriven as OneRedrive, Rewritten as WrittenAnew, Stage as RedriveStage, content as redrive_content, dead_lines as redrive_lines}
 use Rattle.esm_queue_life.specs.Life.{Ran, Redriven, Rewritten, Stage, content, dead_lines}
 
--- a life as a list of redrives, between which each run wrote the content anew that it left
+-- a life as a list of redrives; a run between them counts as writing anew the content that it left
 abbrev pub under_redrives : List Stage → List RedriveStage
 under_redrives [] = []
 under_redrives (Ran r ∷ stages) = WrittenAnew (content_after r.setting r.recorded (content stages)) ∷ under_redrives stages
 under_redrives (Redriven r ∷ stages) = OneRedrive r ∷ under_redrives stages
 under_redrives (Rewritten list ∷ stages) = WrittenAnew list ∷ under_redrives stages
 
--- the laws over lists of redrives speak of it, of the same content and of the same dead letters
+-- the laws over lists of redrives hold of it, with the same content and the same dead letters
 pub record IsUnderRedrives (fifo : Bool) (life : List Stage) : Type 0 where
   pub is_life : IsRedriveLife fifo (under_redrives life)
   pub content_is : redrive_content (under_redrives life) ≡ content life
@@ -26,8 +26,8 @@ pub record IsUnderRedrives (fifo : Bool) (life : List Stage) : Type 0 where
 abbrev pub lined_ids : Bool → List Stage → List (List ℕ)
 lined_ids fifo life = dead_ids fifo (dead_lines life)
 
--- A message waits, or is one of succeeded, filtered and moved; the line of each moved one stands in the dead-letter file; each id
--- stands in one line of it at most; and it stays good for the next redrive.
+-- A message waits, or is one of succeeded, filtered and moved; the line of each moved one is in the dead-letter file; each
+-- id is in at most one line of it; and the file stays good for the next redrive.
 pub record KeepsDeadLetters (fifo : Bool) (life : List Stage) : Type 0 where
   pub one_end : (i : ℕ) (k : KeptFate) → deletion_in (content life) i ≡ Some k → is_redrive_fate k.fate ≡ true
   pub lined : (i : ℕ) (k : KeptFate) → deletion_in (content life) i ≡ Some k → k.fate ≡ Exhausted → stands_among (lined_ids fifo life) k.text ≡ true

@@ -1,5 +1,5 @@
-// What holds over the life of a queue's mapping: over runs and redrives that end or are stopped at any moment, and rewritings of
-// the journal between them. What came last stands first.
+// What holds over the life of a queue's mapping: over runs and redrives that end or are stopped at any moment, and
+// rewritings of the journal between them. The last stage is first.
 ghost use Rattle.std.specs.Prelude.{◌≡◌, ◌∷◌, ◌++◌, Bool, true, List, Some, reverse};
 ghost use Rattle.esm_journal_state.specs.Meaning.{are_good};
 ghost use Rattle.esm_redrive_life.specs.Content.{DeletionsAreRecorded};
@@ -21,7 +21,7 @@ pub fn deletion_stays()
     read_again();
 }
 
-/// Each message is recorded as deleted by one payload at most, however many runs and redrives there are.
+/// Each message is recorded as deleted by at most one payload, however many runs and redrives there are.
 pub fn each_deleted_once()
     ensures { (fifo : Bool) (life : List Stage) → IsLife fifo life → EachDeletedOnce life }
 {
@@ -35,7 +35,7 @@ pub fn each_is_earned()
     read_again();
 }
 
-/// And each one that is recorded after a redrive.
+/// So was each one that is recorded after a redrive.
 pub fn each_redrive_is_earned()
     ensures { (fifo : Bool) (r : Redrive) (before : List Stage) → IsLife fifo (Redriven r ∷ before) → EachRedriveIsEarned fifo r before }
 {
@@ -43,12 +43,14 @@ pub fn each_redrive_is_earned()
     moved_when_received();
 }
 
-/// The message at a place stays the same once its deletion is recorded: whichever run or redrive it comes in again, it has that id.
+/// The message at a place stays the same once its deletion is recorded: whichever run or redrive it comes in again, it has
+/// that id.
 pub fn ids_are_kept()
     ensures { (fifo : Bool) (stage : Stage) (r : Run) (before : List Stage) → IsLife fifo (stage ∷ before) → run_of stage ≡ Some r → IdsAreKept r before }
 {}
 
-/// No call of a run or of a redrive holds a message whose deletion was recorded when it began, or that it deleted before the call.
+/// No call of a run or of a redrive holds a message whose deletion was recorded when it began, or that it deleted before the
+/// call.
 pub fn none_is_called_again()
     ensures { (fifo : Bool) (stage : Stage) (r : Run) (before : List Stage) → IsLife fifo (stage ∷ before) → run_of stage ≡ Some r →
         NoneIsCalledAgain r before }
@@ -67,8 +69,8 @@ pub fn deletions_are_recorded()
     read_again();
 }
 
-/// What a run or a redrive finds deleted is what the one before it had deleted when its journal's last payload was written, whatever
-/// rewritings stand between them.
+/// What a run or a redrive finds deleted is what the one before it had deleted when its journal's last payload was written,
+/// whatever rewritings are between them.
 pub fn each_run_goes_on()
     ensures { (fifo : Bool) (later earlier : Stage) (next r : Run) (between before : List Stage) → IsLife fifo (later ∷ between ++ earlier ∷ before) →
         AreRewritten between → run_of later ≡ Some next → run_of earlier ≡ Some r → GoesOnFrom r next }
@@ -90,7 +92,8 @@ pub fn life_is_under_redrives()
     read_again();
 }
 
-/// So each message has one end at most, the line of each moved one stands in the dead-letter file, and each id in one line of it.
+/// So each message has at most one end, the line of each moved one is in the dead-letter file, and each id is in at most one
+/// line of it.
 pub fn dead_letters_are_kept()
     ensures { (fifo : Bool) (life : List Stage) → IsLife fifo life → KeepsDeadLetters fifo life }
 {

@@ -15,8 +15,8 @@ use Rattle.esm_queue_model.specs.Queue.{QueueState, eligible, after_receipt, see
 use Rattle.esm_queue_model.specs.QueueSetting.{QueueSetting}
 use Rattle.esm_queue_model.specs.QueueEntries.{queue_of}
 
--- the event text of a call with these messages at the moment: it shows the receive counts and the first receipts after
--- the call's own receipt
+-- the event text of a call with these messages at the moment; it has the receive counts and first receipts that include the
+-- call's own receipt
 abbrev pub queue_event : QueueSetting → QueueState → ℕ → List ℕ → List ℕ
 queue_event s q m places = queue_event_text s.config (seen (after_receipt m places q) places)
 
@@ -28,11 +28,12 @@ eligible_after s h m = eligible (queue_of s h) m
 abbrev pub queue_fits : QueueSetting → List Entry → ℕ → List ℕ → Bool
 queue_fits s h m places = nat_le (length places) s.config.batch_size && nat_le (length (queue_event s (queue_of s h) m places)) MAX_EVENT
 
--- the longest prefix of the eligible messages that meets them at the moment
+-- the longest prefix of the eligible messages that meets the two limits at the moment
 abbrev pub queue_batch : QueueSetting → List Entry → ℕ → List ℕ
 queue_batch s h m = longest (queue_fits s h m) [] (eligible_after s h m)
 
--- the batch is full or cut, or its first message came at least the batching window ago, or the book is shut
+-- the batch is full or shorter than the eligible messages, or its first message arrived at least the batching window ago, or
+-- the input ended
 abbrev pub is_batch_ready : QueueSetting → List Entry → ℕ → List ℕ → List ℕ → Bool
 is_batch_ready s h m eligible batch =
     (length batch == s.config.batch_size)
@@ -61,13 +62,13 @@ queue_calls_after s sends h k before (Ended lane reply moment) =
     else before
 queue_calls_after s sends h k before _ = before
 
--- the calls of the batcher that ended, oldest first, as its caller logs them: `sends` gives the bytes that it sends for an
--- event
+-- the calls of the batcher that ended, oldest first, as its caller logs them; `sends` maps an event to the bytes that the
+-- caller sends
 abbrev pub queue_calls : QueueSetting → (List ℕ → List ℕ) → List Entry → ℕ → List Called
 queue_calls s sends [] k = []
 queue_calls s sends (e ∷ h) k = queue_calls_after s sends h k (queue_calls s sends h k) e
 
--- those that end in `later`, oldest first
+-- the calls of the batcher that end in `later`, oldest first
 abbrev pub queue_calls_since : QueueSetting → (List ℕ → List ℕ) → (later before : List Entry) → ℕ → List Called
 queue_calls_since s sends [] before k = []
 queue_calls_since s sends (e ∷ later) before k = queue_calls_after s sends (later ++ before) k (queue_calls_since s sends later before k) e

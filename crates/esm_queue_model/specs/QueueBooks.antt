@@ -1,4 +1,4 @@
--- The history of a queue's book, as threads hand it on: what it is as a setting and as entries, whose each entry is, and
+-- The shared history of a queue's book, which threads pass on: its setting and its entries, which seat adds an entry, and
 -- which entry may come next. This product's own. A list of `Told` has its oldest entry first, a list of entries its newest.
 use Rattle.std.specs.Prelude.{◌≡◌, ℕ, suc, List, [], ◌∷◌, ◌++◌, length, Option, Some, None}
 use Rattle.std.specs.List.{All}
@@ -18,17 +18,17 @@ use Rattle.esm_queue_model.specs.QueueStep.{QueueMayFollow}
 
 -- messages
 
--- those that stand with an entry, where that is a `Came`
+-- the messages that an entry holds, where it is a `Came`
 abbrev pub messages_with : List Message → Entry → List Message
 messages_with messages (Came shard first count moment) = messages
 messages_with messages _ = []
 
--- those that stand with the `Came` entries of a history, in order
+-- the messages that the `Came` entries of a history hold, in order
 abbrev pub messages_told : List Told → List Message
 messages_told [] = []
 messages_told (t ∷ ts) = messages_with t.messages t.entry ++ messages_told ts
 
--- the setting of a book that was opened with the setup: its messages are those that its history tells
+-- the setting of a book that was opened with the setup: its messages are those that its history holds
 abbrev pub queue_setting_told : Setup → List Told → QueueSetting
 queue_setting_told setup history = record {
   config = setup.config;
@@ -40,7 +40,7 @@ queue_setting_told setup history = record {
 
 -- authors
 
--- the seat of the lane's batcher, whose number the lane has; the reader has the seat 0
+-- the seat of the lane's batcher, whose number is the lane's; the reader has seat 0
 abbrev pub queue_seat : Option LaneId → ℕ
 queue_seat None = 0
 queue_seat (Some lane) = suc lane.lane
@@ -51,23 +51,23 @@ queue_author setup history t = queue_seat (lane_of_entry t.entry)
 
 -- which entry may come next
 
--- the messages that a `Came` covers: so many, each valid
+-- the messages that a `Came` covers: `count` of them, each valid
 pub record AreCoveredMessages (kind : Kind) (shard count : ℕ) (messages : List Message) : Type 0 where
   pub queue : shard ≡ 0
   pub number : length messages ≡ count
   pub valid : All (IsValidMessage kind) messages
 
--- these messages stand with the entry: with a `Came` those that it covers, with every other entry none
+-- the entry holds these messages: a `Came` those that it covers, and every other entry none
 abbrev pub MessagesStandWith : Kind → Entry → List Message → Type 0
 MessagesStandWith kind (Came shard first count moment) messages = AreCoveredMessages kind shard count messages
 MessagesStandWith kind _ messages = messages ≡ []
 
--- it is told as one of a queue of the kind
+-- the entry is one of a queue's book: it holds its messages, and no records
 pub record IsOfQueue (kind : Kind) (t : Told) : Type 0 where
   pub messages : MessagesStandWith kind t.entry t.messages
   pub no_records : t.records ≡ []
 
--- the entry may follow the history over every list of messages that goes on from those told, its own among them
+-- the entry may follow the history over every list of messages that extends those told, its own included
 pub record TellsQueue (setup : Setup) (history : List Told) (t : Told) : Type 0 where
   pub of_queue : IsOfQueue setup.config.kind t
   pub later : IsLater (entries_told history) (moment_of t.entry)

@@ -3,8 +3,8 @@ use Rattle.std.specs.Prelude.{ℕ, ◌≡◌, ◌<◌, true, ◌⊎◌, Some}
 use Rattle.esm_queue_model.specs.declared.stored.Stored.{Stored}
 use Rattle.esm_queue_model.specs.Queue.{QueueState, stored_at, is_shown, is_eligible, same_group}
 
--- the message at a place is eligible exactly where it is neither deleted nor hidden, and in a FIFO queue each earlier
--- message of its group is deleted or eligible
+-- each earlier message of its group is deleted or eligible. A message is eligible if and only if it is neither deleted nor
+-- hidden and, in a FIFO queue, this holds.
 abbrev pub EachEarlierIsDeletedOrEligible : QueueState → ℕ → ℕ → Stored → Type 0
 EachEarlierIsDeletedOrEligible q m i x = (j : ℕ) (y : Stored) → j < i → stored_at q j ≡ Some y → same_group y x ≡ true → (y.deleted ≡ true) ⊎ (is_eligible q m j ≡ true)
 

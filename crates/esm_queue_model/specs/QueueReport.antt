@@ -6,8 +6,8 @@ use Rattle.esm_model.specs.Numbers.{decimal}
 use Rattle.esm_queue_model.specs.QueueSetting.{QueueSetting}
 use Rattle.esm_queue_model.specs.QueueEntries.{queue_count, deleted_count, deleted_with}
 
--- the numbers of the messages that came, that are deleted, and of those that succeeded and that were filtered, found ones
--- included; without the line feed
+-- the numbers of messages that arrived, that are deleted, that succeeded and that were filtered, found ones included;
+-- without the line feed
 abbrev pub queue_text : QueueSetting → List Entry → List ℕ
 queue_text s h =
     codes "queue messages " ++ decimal (queue_count h)

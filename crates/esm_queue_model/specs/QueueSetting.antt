@@ -1,4 +1,4 @@
--- A queue's setting: what a history of its mapping is judged over. This product's own.
+-- The setting of a history of a queue's mapping: what its entries are judged against. This product's own.
 use Rattle.std.specs.Prelude.{ℕ, ◌≡◌, ◌==◌, Bool, true, false, List, find, filter_map, map, Option, Some, is_some, slice_get}
 use Rattle.esm_model.specs.declared.config.Config.{Config}
 use Rattle.esm_model.specs.declared.config.Kind.{Kind}
@@ -7,7 +7,7 @@ use Rattle.esm_model.specs.declared.item.Message.{Message}
 use Rattle.esm_model.specs.declared.setup.FoundDeletion.{FoundDeletion}
 
 -- the configuration, the calls allowed, the visibility timeout in milliseconds, the messages by place, and the deletions
--- that the journal told of at opening
+-- that were found in the journal at opening
 pub record QueueSetting : Type 0 where
   pub config : Config
   pub calls : ℕ
@@ -42,6 +42,6 @@ is_found s i = is_some (found_deletion s i)
 abbrev pub over_messages : QueueSetting → List Message → QueueSetting
 over_messages s messages = record s { messages = messages }
 
--- each message of the one list stands at its place in the other
+-- each message of the first list is in the second one, at the same place
 abbrev pub ExtendsMessages : List Message → List Message → Type 0
 ExtendsMessages before after = (i : ℕ) (m : Message) → slice_get before i ≡ Some m → slice_get after i ≡ Some m

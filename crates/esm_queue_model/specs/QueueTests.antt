@@ -1,5 +1,5 @@
--- Legality of a queue's history by tests that compute: each row is judged over the lanes that occur in it. A history that
--- passes is legal; the worked histories are judged so. The tests are not said to be complete.
+-- Legality of a queue's history as a test that computes: the conditions of each entry, over the lanes that occur in the
+-- history. A history that passes is legal; the worked histories are proved legal by it. A legal history need not pass.
 use Rattle.std.specs.Prelude.{ℕ, ◌+◌, ◌==◌, nat_le, nat_lt, Bool, true, false, not, ◌&&◌, List, [], ◌∷◌, length, Option, Some, None, option_map, is_none}
 use Rattle.std.specs.List.{list_all}
 use Rattle.std.specs.Str.{bytes_eq}
@@ -23,12 +23,12 @@ abbrev pub ended_after : List LaneId → Entry → List LaneId
 ended_after before (Ended lane reply moment) = lane ∷ before
 ended_after before _ = before
 
--- the lanes of which a call ended: no other lane is owed anything
+-- the lanes in which a call ended: no other lane owes anything
 abbrev pub ended_lanes : List Entry → List LaneId
 ended_lanes [] = []
 ended_lanes (e ∷ h) = ended_after (ended_lanes h) e
 
--- the rows
+-- the conditions of each entry
 
 abbrev pub is_later_entry : List Entry → ℕ → Bool
 is_later_entry h m = nat_le (last_moment h) m && nat_le m MAX_MOMENT
@@ -37,7 +37,7 @@ abbrev pub is_id_of : Option (List ℕ) → Option Message → Bool
 is_id_of (Some text) (Some m) = bytes_eq m.id text
 is_id_of _ _ = true
 
--- the message at the place has the id that the journal kept
+-- the message at the place has the id that the journal kept of it
 abbrev pub is_kept_message : QueueSetting → ℕ → Bool
 is_kept_message s i = is_id_of (option_map (λ (f : FoundDeletion). f.text) (found_deletion s i)) (message_at s i)
 

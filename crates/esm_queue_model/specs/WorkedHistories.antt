@@ -1,4 +1,5 @@
--- Worked examples of queues' histories: a setting, a history (newest entry first) and what the definitions say of it.
+-- Worked examples of queues' histories: a setting, a history with its newest entry first, and what the definitions say of
+-- it.
 use Rattle.std.specs.Prelude.{◌≡◌, ℕ, true, false, List, [], ◌∷◌, ◌++◌, codes, map, drop, Option, Some, None}
 use Rattle.esm_model.specs.declared.config.Config.{Config}
 use Rattle.esm_model.specs.declared.config.Kind.{Kind}
@@ -31,14 +32,14 @@ message id group body = record { id = id; group = group; body = body; sent = 0 }
 abbrev pub plain_message : List ℕ → Message
 plain_message id = message id None (codes "x")
 
--- a legal history over the setting with these calls, the messages that wait after it, and what the report says
+-- the history is legal over the setting, and has these calls, messages that wait after it, and report
 pub record QueueRuns (s : QueueSetting) (h calls : List Entry) (left text : List ℕ) : Type 0 where
   pub is_legal : LegalQueue s h
   pub calls_are : calls_in h ≡ calls
   pub left_are : waiting s h ≡ left
   pub text_is : queue_text s h ≡ text
 
--- `queue-item-failures`: of three messages the answer reports one, which is called again when it shows
+-- `queue-item-failures`: of three messages the answer reports one, which is called again once it is visible
 
 abbrev pub reporting : QueueSetting
 reporting = queue_setting (record (queue_mapping Standard) { item_failures = true }) (map plain_message (codes "a" ∷ codes "b" ∷ codes "c" ∷ []))
@@ -46,11 +47,11 @@ reporting = queue_setting (record (queue_mapping Standard) { item_failures = tru
 abbrev pub reports_b : Reply
 reports_b = Answered 200 false (codes "{\"batchItemFailures\":[{\"itemIdentifier\":\"b\"}]}")
 
--- after the first answer
+-- the history after the first answer
 abbrev pub one_reported : List Entry
 one_reported = gave (0 ∷ 2 ∷ []) Succeeded 0 ∷ ended reports_b 0 ∷ began (0 ∷ 1 ∷ 2 ∷ []) 0 ∷ all_came 3 0
 
--- the message as the second event shows it, with its receive count and its first receipt
+-- the message in the second event, with its receive count and its first receipt
 abbrev pub shown_again : List ℕ
 shown_again =
     codes "{\"Records\":[{\"messageId\":\"b\",\"receiptHandle\":\"RH-1-2\",\"body\":\"x\","
@@ -93,7 +94,7 @@ choosing = queue_setting (record (queue_mapping Standard) { filters = codes "{\"
 abbrev pub FilteredMessage : Type 0
 FilteredMessage = QueueRuns choosing (good_call (0 ∷ []) 0 (Shut 0 ∷ Gave None 0 (1 ∷ []) Filtered None None 0 ∷ Came 0 0 2 0 ∷ [])) (began (0 ∷ []) 0 ∷ []) [] (codes "queue messages 2 deleted 2 succeeded 1 filtered 1")
 
--- a message whose deletion the journal tells is never called
+-- a message whose deletion was found in the journal is never called
 
 abbrev pub finding : QueueSetting
 finding = record (queue_setting (queue_mapping Standard) (map plain_message (codes "a" ∷ codes "b" ∷ []))) { deletions = record { place = 0; fate = Succeeded; text = codes "a" } ∷ [] }
@@ -102,6 +103,6 @@ pub record FoundDeleted : Type 0 where
   pub left : waiting finding (all_came 2 0) ≡ 1 ∷ []
   pub runs : QueueRuns finding (good_call (1 ∷ []) 0 (all_came 2 0)) (began (1 ∷ []) 0 ∷ []) [] (codes "queue messages 2 deleted 2 succeeded 2 filtered 0")
 
--- a message with another id than the journal kept may not come
+-- a message with another id than the journal kept may not arrive
 abbrev pub ChangedMessageIsNotLegal : Type 0
 ChangedMessageIsNotLegal = ¬ LegalQueue (record finding { messages = map plain_message (codes "z" ∷ codes "b" ∷ []) }) (Came 0 0 2 0 ∷ [])

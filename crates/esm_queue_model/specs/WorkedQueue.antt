@@ -6,14 +6,14 @@ use Rattle.esm_queue_model.specs.Queue.{QueueState, empty_queue, after_arrival, 
 abbrev pub grouped : List ℕ → List ℕ → Message
 grouped id group = record { id = id; group = Some group; body = codes "x"; sent = 0 }
 
--- messages of the groups A, B and A came at 0
+-- messages of the groups A, B and A arrived at 0
 abbrev pub three_came : QueueState
 three_came =
     after_arrival (grouped (codes "c") (codes "A")) 0
     (after_arrival (grouped (codes "b") (codes "B")) 0
     (after_arrival (grouped (codes "a") (codes "A")) 0 (empty_queue true 30000)))
 
--- `receive` of so many: the queue afterwards
+-- the queue after a receipt of at most `max` messages
 abbrev pub received : ℕ → ℕ → QueueState → QueueState
 received m max q = after_receipt m (receivable q m max) q
 
@@ -29,7 +29,7 @@ given_again = received 30000 1 two_given
 abbrev pub one_deleted : QueueState
 one_deleted = after_deletion (0 ∷ []) given_again
 
--- a message in flight holds the later ones of its group back, until it shows again or is deleted
+-- a message in flight holds back the later ones of its group, until it is visible again or deleted
 pub record FifoReceive : Type 0 where
   pub all : receivable three_came 0 10 ≡ 0 ∷ 1 ∷ 2 ∷ []
   pub first : receivable three_came 0 1 ≡ 0 ∷ []
@@ -38,7 +38,7 @@ pub record FifoReceive : Type 0 where
   pub counted : count_at given_again 0 ≡ 2
   pub after_deletion_of_first : receivable one_deleted 30000 10 ≡ 1 ∷ 2 ∷ []
 
--- what is told of the queue with its first message in flight
+-- what the queue shows while its first message is in flight
 pub record QueuePeek : Type 0 where
   pub all : receivable three_came 0 10 ≡ 0 ∷ 1 ∷ 2 ∷ []
   pub other_group : receivable one_given 0 10 ≡ 1 ∷ []

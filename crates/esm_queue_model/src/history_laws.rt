@@ -1,5 +1,5 @@
-//! What holds of every legal history of a queue's mapping, each as the contract of a function that does nothing.
-//! A history is written newest entry first.
+//! Laws of every legal history of a queue's mapping, each as the contract of a function that does nothing. A history has its
+//! newest entry first.
 ghost use Rattle.std.specs.Prelude.{ℕ, List};
 ghost use Rattle.esm_model.specs.declared.item.Message.{Message};
 ghost use Rattle.esm_model.specs.declared.entry.Entry.{Entry};
@@ -12,28 +12,29 @@ pub fn deleted_once()
     ensures { (s : QueueSetting) (h : List Entry) → LegalQueue s h → DeletedOnce s h }
 {}
 
-/// In a legal history of a FIFO queue no batch overtakes an earlier message of one of its groups.
+/// In a legal history of a FIFO queue no batch overtakes an earlier message of one of its groups: that message is deleted or
+/// in the batch too.
 pub fn order_per_group()
     ensures { (s : QueueSetting) (h : List Entry) → LegalQueue s h → OrderPerGroup s h }
 {}
 
-/// In a legal history each message that came is counted once: as deleted, or as waiting.
+/// In a legal history each message that arrived is counted once: as deleted, or as waiting.
 pub fn every_message_counted()
     ensures { (s : QueueSetting) (h : List Entry) → LegalQueue s h → EveryMessageCounted s h }
 {}
 
-/// What is legal over a list of messages is legal over each list that goes on from it.
+/// A history that is legal over a list of messages is legal over each list that extends it.
 pub fn legal_over_more()
     ensures { (s : QueueSetting) (h : List Entry) (after : List Message) → ExtendsMessages s.messages after → LegalQueue s h →
         LegalQueue (over_messages s after) h }
 {}
 
-/// What follows a history adds to the calls of a batcher those that end in it, and changes none before.
+/// Entries after a history add to the calls of a batcher those that end in them, and change none before.
 pub fn queue_calls_kept()
     ensures { (s : QueueSetting) (sends : List ℕ → List ℕ) (later before : List Entry) (k : ℕ) → QueueCallsKept s sends later before k }
 {}
 
-/// The calls of a legal history are those over each list of messages that goes on from the setting's.
+/// The calls of a legal history are the same over each list of messages that extends the setting's.
 pub fn queue_calls_kept_over()
     ensures { (s : QueueSetting) (sends : List ℕ → List ℕ) (h : List Entry) (k : ℕ) (after : List Message) → ExtendsMessages s.messages after →
         LegalQueue s h → QueueCallsKeptOver s sends h k after }

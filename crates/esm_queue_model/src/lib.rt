@@ -1,6 +1,6 @@
-//! The vocabulary of queues, beside that of streams: what a queue's state is, which of its messages are hidden, eligible
-//! and received, and which histories of a queue's mapping are legal.
-//! Definitions and laws; no device, clock or thread.
+//! The vocabulary of queues, in addition to that of streams: the state of a queue, which of its messages are hidden and
+//! which eligible, what a receipt does, and which histories of a queue's mapping are legal. Definitions and laws; no device,
+//! clock or thread.
 #![tactic(auto)]
 
 pub mod history_laws;

@@ -8,21 +8,21 @@ ghost use Rattle.esm_queue_model.specs.WorkedQueue.{FifoReceive, QueuePeek};
 ghost use Rattle.esm_queue_model.specs.WorkedHistories.{QueueItemFailures, HiddenCallIsNotLegal, TwoGroups, FilteredMessage, FoundDeleted};
 ghost use Rattle.esm_queue_model.specs.WorkedHistories.{ChangedMessageIsNotLegal};
 
-/// Three messages of the groups A, B and A: one in flight holds the later one of its group back, until it shows again or
-/// is deleted.
+/// Three messages of the groups A, B and A: one in flight holds back the later one of its group, until it is visible again
+/// or deleted.
 pub fn queues()
     ensures fifo_receive { FifoReceive }
     ensures queue_peek { QueuePeek }
 {}
 
-/// A history that passes the tests over the lanes that occur in it is legal.
+/// A history is legal if it passes tests over the lanes that occur in it.
 pub fn legal_by_tests()
     ensures { (s : QueueSetting) (h : List Entry) → is_legal_queue s h ≡ true → LegalQueue s h }
 {}
 
-/// A message that the answer reports is called again when it shows, with its receive count, and not before; a message in
-/// flight holds back the later one of its group; one that does not pass the filter, or was found deleted, is never
-/// called; and one with another id than the journal kept may not come.
+/// A message that the answer reports is called again once it is visible, with its receive count, and not before. A message
+/// in flight holds back the later one of its group. One that does not pass the filter, or was found deleted, is never
+/// called. One with another id than the journal kept may not arrive.
 pub fn histories()
     ensures queue_item_failures { QueueItemFailures }
     ensures hidden_call { HiddenCallIsNotLegal }

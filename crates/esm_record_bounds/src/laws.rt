@@ -1,5 +1,5 @@
-//! What holds of every legal history over lists within the bounds of a stream, each as the contract of a function that
-//! does nothing. A history is written newest entry first.
+//! Laws of every legal history whose records are within the bounds of a stream, each as the contract of a function that does
+//! nothing. A history has its newest entry first.
 ghost use Rattle.std.specs.Prelude.{◌≡◌, ◌≤◌, ℕ, [], ◌∷◌, Bool, List, length, filter_map, IfSome, Some};
 ghost use Rattle.esm_model.specs.declared.limits.TheConstants.{MAX_PAYLOAD};
 ghost use Rattle.esm_model.specs.declared.lane.LaneId.{LaneId};
@@ -20,49 +20,49 @@ ghost use Rattle.esm_journal_record.specs.EntryPayload.{AllMayBeSaid, entry_said
 ghost use Rattle.esm_journal_record.specs.Payload.{payload_of};
 ghost use Rattle.esm_record_bounds.specs.Bounds.{AreWithinBounds, AreCountedInFourBytes, AreStatesWithin, FiltersFew, IsStateWithin};
 
-/// The lists that the history of a stream's book tells are within the bounds, where the states are that its journal told
-/// of at opening.
+/// The records that the shared history of a stream's book holds are within the bounds, if the states found in its journal at
+/// opening are.
 pub fn told_within()
     ensures { (setup : Setup) (history : List Told) → AreStatesWithin setup.states → IsLegal (stream_may_follow setup) history →
         AreWithinBounds (setting_told setup history) }
 {}
 
-/// A window's state that a legal history keeps: the window's start is at most the last moment, and its text has at most
-/// the bytes of a state (Lambda Developer Guide, tumbling windows).
+/// A state that a legal history keeps for a window is within its bounds: the window's start is at most the last moment, and
+/// its text is no longer than a state may be (Lambda Developer Guide, tumbling windows).
 pub fn states_within()
     ensures { (s : Setting) (h : List Entry) (n w : ℕ) (text : List ℕ) → AreWithinBounds s → Legal s h → kept_state s h n w ≡ Some text → IsStateWithin w text }
 {}
 
-/// Each entry of a legal history may be said by a payload of its journal, where it has one.
+/// Each journaled entry of a legal history has a payload that its journal accepts.
 pub fn legal_may_be_said()
     ensures { (s : Setting) (h : List Entry) → AreWithinBounds s → Legal s h → AreCountedInFourBytes h → AllMayBeSaid s h }
 {}
 
-/// The payload of an entry of a legal history is not too long for a journal, where the entry has one. Records that are
-/// filtered at their arrival are as many as came at once, which the history leaves open: at most as many as a batch has.
+/// The payload of an entry of a legal history, if it has one, is not too long for a journal. The history does not bound the
+/// number of records that are filtered at their arrival, so this is assumed: they are at most as many as a batch may have.
 pub fn payload_within()
     ensures { (s : Setting) (h : List Entry) (e : Entry) → AreWithinBounds s → IsStreamConfig s.config → Legal s (e ∷ h) → AreCountedInFourBytes h →
         FiltersFew e → IfSome (entry_said s e) (λ said. length (payload_of said) ≤ MAX_PAYLOAD) }
 {}
 
-/// Where no record of a shard was to be filtered, no more are after records of it came than those.
+/// If no record of a shard was waiting to be filtered, then after the arrival of `count` records at most `count` are.
 pub fn filtered_few()
     ensures { (s : Setting) (h : List Entry) (n first count m : ℕ) → unsorted s h n ≡ [] → length (unsorted s (Came n first count m ∷ h) n) ≤ count }
 {}
 
-/// Of the entries that the end of a call calls for at most one has a failure line.
+/// Of the entries that the end of a call requires, at most one has a failure line.
 pub fn one_line()
     ensures { (s : Setting) (h : List Entry) (lane : LaneId) (reply : Reply) (m : ℕ) →
         length (filter_map entry_line (owed s (Ended lane reply m ∷ h) lane)) ≤ 1 }
 {}
 
-/// A failure line of a stream's mapping has at most the bytes that a destination takes.
+/// A failure line of a stream's mapping is no longer than a destination accepts.
 pub fn line_within()
     ensures { (s : Setting) (h : List Entry) (n : ℕ) (places : List ℕ) (expired : Bool) (m : ℕ) (line : List ℕ) → AreWithinBounds s →
         IsStreamConfig s.config → failure_line s h n places expired m ≡ Some line → length line ≤ MAX_PAYLOAD }
 {}
 
-/// So has that of an entry of a legal history, where the entry has one.
+/// Nor is the failure line of an entry of a legal history, if it has one, longer than a destination accepts.
 pub fn lines_within()
     ensures { (s : Setting) (h : List Entry) (e : Entry) (line : List ℕ) → AreWithinBounds s → IsStreamConfig s.config → Legal s (e ∷ h) →
         entry_line e ≡ Some line → length line ≤ MAX_PAYLOAD }

@@ -1,12 +1,12 @@
--- What a caller over another tells of its calls. This product's own.
+-- What a caller over another one says of its calls. This product's own.
 use Rattle.std.specs.Prelude.{◌≡◌, ℕ, Bool, List, [], ◌∷◌, ◌++◌, length, map, Option, Some, None, IfSome, if◌then◌else◌}
 use Rattle.esm_io.specs.Told.{Grows}
 use Rattle.esm_model.specs.declared.called.Called.{Called}
 use Rattle.esm_model.specs.declared.entry.Reply.{Reply}
 use Rattle.esm_model.specs.declared.entry.Reply.TheVariants.{Lost}
 
--- the caller below as it is and as it was handed in, the calls made since, oldest first, and the replies to them, where they
--- are kept
+-- the caller below as it is now and as it was handed in, the calls made since, oldest first, and the replies to them, if
+-- they are kept
 pub record RecorderState (F : Type 0) : Type 0 where
   pub caller : F
   pub found : F
@@ -25,13 +25,15 @@ as_sent sends calls = map (λ (c : Called). record { name = c.name; event = send
 abbrev pub replies_to : List Called → List Reply
 replies_to calls = map (λ (c : Called). c.reply) calls
 
--- the log of the caller below grew by the calls made since, and where replies are kept they are those to all of these
+-- the log of the caller below grew by the calls made since, and the replies, if they are kept, are those to all of these
+-- calls
 pub record IsRecorder {F : Type 0} (log : F → Option (List Called)) (r : RecorderState F) : Type 0 where
   pub grown : Grows (log r.found) (log r.caller) r.logged
   pub kept : IfSome r.kept (λ replies. replies ≡ replies_to r.logged)
 
--- What a run is told of a caller is its log alone. So the log says at its front what the caller below had told when it was
--- handed in: a mark that is no call, with the number of the calls that it told, or none where it told nothing; and these calls.
+-- A run sees nothing of a caller but its log. So the log begins with what the caller below had logged when it was handed in:
+-- a mark that is no call, which holds the number of those calls, or no number if that log was not visible; and then those
+-- calls.
 
 abbrev pub mark : List ℕ → Called
 mark number = record { name = []; event = number; reply = Lost }
@@ -40,11 +42,11 @@ abbrev pub told_before : Option (List Called) → List Called
 told_before None = mark [] ∷ []
 told_before (Some calls) = mark (length calls ∷ []) ∷ calls
 
--- and behind that the calls made since
+-- and then the calls made since
 abbrev pub log_of : {F : Type 0} → (F → Option (List Called)) → RecorderState F → Option (List Called)
 log_of log r = Some (told_before (log r.found) ++ r.logged)
 
--- the replies that each of them kept, if each did
+-- the replies that each recorder kept, if every one kept its own
 abbrev pub with_kept : Option (List Reply) → Option (List (List Reply)) → Option (List (List Reply))
 with_kept (Some replies) (Some lists) = Some (replies ∷ lists)
 with_kept _ _ = None

@@ -1,4 +1,4 @@
-// A call as it was made, and the list of calls that only clauses read.
+// A call as it was made, and the list of calls that only the contracts read.
 ghost use Rattle.std.specs.Prelude.{◌≡◌, [], ◌∷◌, ◌++◌};
 
 use esm_model::{Called, Reply};
@@ -7,7 +7,7 @@ use std::collections::LinkedList;
 use std::mem;
 use std::snapshot::Snapshot;
 
-/// A call: the function's name, the event, and what it came to.
+/// A call: the function's name, the event and the reply.
 #[derive(Drop)]
 pub(crate) struct Call<'a> {
     pub name: &'a str,
@@ -15,7 +15,7 @@ pub(crate) struct Call<'a> {
     pub reply: &'a Reply,
 }
 
-/// The list of no call. Takes no memory.
+/// Makes the empty list of calls. Takes no memory.
 pub(crate) fn no_calls(alloc: Global) -> Snapshot<LinkedList<Called>>
     ensures { result.value ≡ [] }
 {
@@ -23,14 +23,14 @@ pub(crate) fn no_calls(alloc: Global) -> Snapshot<LinkedList<Called>>
     Snapshot::of(&calls)
 }
 
-/// The list with one more call. It does nothing when it runs.
+/// The list with one more call. At run time it does nothing.
 fn with_call(calls: Snapshot<LinkedList<Called>>, _call: &Call<'_>) -> Snapshot<LinkedList<Called>>
     ensures { result.value ≡ calls.value ++ record { name = _call.now.name.now; event = _call.now.event.now; reply = _call.now.reply.now } ∷ [] }
 {
     calls
 }
 
-/// Puts a call at the end of the list. Takes no memory.
+/// Appends a call to the list. Takes no memory.
 pub(crate) fn note_call(calls: &mut Snapshot<LinkedList<Called>>, alloc: Global, call: &Call<'_>)
     ensures { calls.new.value ≡ calls.old.value ++ record { name = call.now.name.now; event = call.now.event.now; reply = call.now.reply.now } ∷ [] }
 {

@@ -1,4 +1,4 @@
-// Replies that are kept, as far as memory goes.
+// Keeping replies while memory lasts.
 ghost use Rattle.std.specs.Prelude.{◌≡◌, [], ◌∷◌, ◌++◌, Some, None, IfOk, IfSome};
 
 use esm_model::{OutOfMemory, Reply};
@@ -25,8 +25,8 @@ fn copied(alloc: Global, reply: &Reply) -> Result<Reply, OutOfMemory>
     }
 }
 
-/// Puts a copy of the reply at the end of those that are kept, where any are. Where memory is wanting none are kept any more,
-/// so that those which are kept are always all of them.
+/// Appends a copy of the reply to the kept ones, if replies are kept. If memory runs out, none are kept from then on, so
+/// replies that are kept are always all of them.
 pub(crate) fn keep(alloc: Global, kept: &mut Option<Vec<Reply>>, reply: &Reply)
     ensures none { kept.old ≡ None → kept.new ≡ None }
     ensures more { IfSome kept.old (λ before. IfSome kept.new (λ now. now.items ≡ before.items ++ reply.now ∷ [])) }

@@ -1,6 +1,7 @@
-//! A caller over another that keeps the replies to its calls, so that what a history of a run cannot hold is there at its end.
-//! It knows what its calls came to, and neither books nor histories.
-//! Its calls are those of the caller below, one for one; where it is not told to keep replies it takes no memory.
+//! A caller over another one that keeps the replies to its calls, which the history of a run does not hold, until the run's
+//! end.
+//! It knows the replies to its calls, and neither books nor histories.
+//! Each of its calls is one call of the caller below. If it is not told to keep replies, it takes no memory.
 #![tactic(auto)]
 
 mod call;

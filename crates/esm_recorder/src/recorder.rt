@@ -11,15 +11,16 @@ use std::collections::LinkedList;
 use std::marker::Model;
 use std::snapshot::Snapshot;
 
-/// A caller over another. Each of its calls is one of the caller below, and where it was told to, it keeps a copy of each
-/// reply, in the order of the calls. Where memory is wanting for a copy it keeps none any more, and the calls go on.
+/// A caller over another one. Each of its calls is one call of the caller below. If it was told to, it keeps a copy of each
+/// reply, in the order of the calls. If memory for a copy runs out, it keeps no replies from then on, and the calls
+/// continue.
 ///
-/// Contracts see the caller below as it is and as it was handed in, the calls made since, and the replies that are kept.
+/// Contracts see the caller below as it is now and as it was handed in, the calls made since, and the replies that are kept.
 #[derive(Drop)]
 pub struct Recorder<F: Caller> {
     caller: F,
     kept: Option<Vec<Reply>>,
-    /// The caller as it was handed in, and the calls made since, for the contracts alone.
+    /// The caller as it was handed in, and the calls made since, only for the contracts.
     found: Snapshot<F>,
     calls: Snapshot<LinkedList<Called>>,
 }
@@ -37,7 +38,7 @@ impl<F: Caller> Model for Recorder<F> {
 }
 
 impl<F: Caller> Recorder<F> {
-    /// No call was made yet. Takes no memory.
+    /// Makes a recorder that has made no call; `keeps` says whether it keeps replies. Takes no memory.
     pub fn new(alloc: Global, caller: F, keeps: bool) -> Recorder<F>
         ensures { result ≡ new_recorder keeps caller }
     {
@@ -51,7 +52,7 @@ impl<F: Caller> Recorder<F> {
         }
     }
 
-    /// The caller below, as the calls left it, and the replies to all of them, where they are kept. Takes no memory.
+    /// Returns the caller below, as the calls left it, and the replies to all of them, if they are kept. Takes no memory.
     pub fn into_parts(self) -> (F, Option<Vec<Reply>>)
         ensures caller { result.0 ≡ self.caller }
         ensures kept { option_map (λ v. v.items) result.1 ≡ self.kept }

@@ -1,4 +1,4 @@
-// The callers of a run, recorded, and taken apart again.
+// Wraps the callers of a run in recorders, and unwraps them again.
 ghost use Rattle.std.specs.Prelude.{◌≡◌, ℕ, ◌+◌, ◌<◌, ◌≤◌, [], All, Some, None, IfSome, map, option_map, length, is_some, vec_capacity, vec_len, if◌then◌else◌};
 ghost use Rattle.esm_recorder.specs.Lists.{with_last};
 ghost use Rattle.esm_recorder.specs.Recorder.{IsRecorder, all_kept, new_recorder};
@@ -8,7 +8,7 @@ use esm_io::Caller;
 use esm_model::Reply;
 use std::alloc::Global;
 
-/// The callers are handed to recorders over them, in their order. Takes no memory, and their own vector keeps its room.
+/// Moves the callers into recorders over them, in their order. Takes no memory, and the callers' vector keeps its capacity.
 pub fn record<F: Caller>(
     alloc: Global,
     callers: &mut Vec<F>,
@@ -26,8 +26,8 @@ pub fn record<F: Caller>(
     recorders.reverse();
 }
 
-/// The callers below go back into their vector, in their order. Where there is room for them, the replies of each are handed
-/// out, if each kept them. Takes no memory.
+/// Moves the callers below back into their vector, in their order. Returns the replies of each, if `room` is given and every
+/// recorder kept its own. Takes no memory.
 pub fn take_apart<F: Caller>(
     mut recorders: Vec<Recorder<F>>,
     callers: &mut Vec<F>,
@@ -51,7 +51,7 @@ pub fn take_apart<F: Caller>(
     lists
 }
 
-/// The lists with one more, where there is one. Takes no memory.
+/// Appends one more list, if both are there; `None` otherwise. Takes no memory.
 fn with_list(lists: Option<Vec<Vec<Reply>>>, kept: Option<Vec<Reply>>) -> Option<Vec<Vec<Reply>>>
     requires room { IfSome lists (λ v. vec_len v < vec_capacity v) }
     ensures lists { option_map (λ v. map (λ rs. rs.items) v.items) result

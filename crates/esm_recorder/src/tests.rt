@@ -5,7 +5,7 @@ use esm_model::{Bytes, OutOfMemory, Reply};
 use std::alloc::Global;
 use std::test::Fail;
 
-/// A caller whose function fails where the event has a `b`.
+/// A caller whose function fails if the event has a `b`.
 fn caller(alloc: Global) -> Result<ScriptCaller, OutOfMemory> {
     let text = Bytes::from_vec(vec![in alloc; b'b']?);
     Ok(ScriptCaller::new(alloc, Script::Poison(text), Vec::new(alloc)))

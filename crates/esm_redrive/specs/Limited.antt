@@ -1,4 +1,4 @@
--- A queue whose messages may be received so often, and which of them are due. Source: the Amazon SQS Developer Guide,
+-- A queue with a limit of receives for each message, and which messages are due. Source: the Amazon SQS Developer Guide,
 -- "Using dead-letter queues" (`maxReceiveCount`).
 use Rattle.std.specs.Prelude.{◌≡◌, ℕ, nat_le, Bool, List, filter}
 use Rattle.esm_model.specs.declared.entry.Entry.{Entry}
@@ -7,8 +7,8 @@ use Rattle.esm_queue_model.specs.QueueEntries.{queue_of}
 use Rattle.esm_redrive_model.specs.RedriveSetting.{RedriveSetting}
 use Rattle.esm_redrive_model.specs.Due.{due}
 
--- its state, how often each message may be received, how many more messages find room, and a moment at which messages may
--- be made to show without memory
+-- its state, how often each message may be received, for how many more messages there is room, and a moment at which
+-- messages can be made to show again without taking memory
 pub record Limited : Type 0 where
   pub state : QueueState
   pub max_receives : ℕ
@@ -19,10 +19,10 @@ pub record Limited : Type 0 where
 abbrev pub is_spent : ℕ → QueueState → ℕ → Bool
 is_spent max q i = nat_le max (count_at q i)
 
--- the messages that are due at the moment: those of the eligible ones that were, by place
+-- the messages that are due at the moment, by place: the eligible ones that were received as often as they may be
 abbrev pub due_in : ℕ → QueueState → ℕ → List ℕ
 due_in max q m = filter (is_spent max q) (eligible q m)
 
--- those that are due after a history are those that the queue after it tells
+-- the messages that are due after a history are those that are due in the queue after it
 abbrev pub IsDueByQueue : RedriveSetting → List Entry → Type 0
 IsDueByQueue s h = (m : ℕ) → due s h m ≡ due_in s.max_receives (queue_of s.queue h) m

@@ -22,17 +22,17 @@ pub record IsUtf8Message (m : Message) : Type 0 where
   pub body : IsUtf8 m.body
   pub group : IsUtf8Group m.group
 
--- the line has no line feed and reads as the message: alone or as the first of an input, and as a payload of the dead-letter
--- file
+-- the line has no line feed and reads as the message: on its own or as the first of an input, and as a payload of the
+-- dead-letter file
 pub record ReadsAs (fifo : Bool) (m : Message) (line : List ℕ) : Type 0 where
   pub read : read_after (kinds.Queue fifo) [] line ≡ Ok (Some (item.Queue m))
   pub one_line : list_any is_line_feed line ≡ false
   pub found : dead_message fifo line ≡ Some m
 
--- so it does where the message is one of a queue of the kind
+-- it does if the message is valid for a queue of this kind
 abbrev pub ReadsBack : Message → List ℕ → Type 0
 ReadsBack m line = (fifo : Bool) → IsValidMessage (queue_kind fifo) m → ReadsAs fifo m line
 
--- its dead letter is found as the message again
+-- its dead letter reads back as this message
 abbrev pub HasLetter : Bool → Message → Type 0
 HasLetter fifo m = dead_message fifo (dead_letter m) ≡ Some m

@@ -1,4 +1,4 @@
--- What holds of a queue with a limit as it is kept. Only this crate's proofs cite this.
+-- The invariant of a queue with a limit. Only this crate's proofs cite this.
 use Rattle.std.specs.Prelude.{◌≡◌, ℕ, ◌<◌, ◌≤◌, ◌&&◌, nat_le, Bool, true, false, List, length, slice_get, slice_index, Some, None, if◌then◌else◌}
 use Rattle.std.below.core.specs.declared.int.u32.TheConstants.{MAX}
 use Rattle.esm_model.specs.Entries.{holds}
@@ -10,25 +10,27 @@ use Rattle.esm_redrive.specs.Limited.{is_spent}
 use Rattle.esm_redrive.specs.declared.limited.TheConstants.{MAX_RECEIVES}
 use Rattle.esm_redrive.specs.declared.limited.LimitedQueue.TheInside.{Inside}
 
--- the moment at which a message shows that was received so often, `NEVER` for all others and where it is deleted
+-- the moment at which a message becomes visible that was received `max` times; `NEVER` for all others, and where it is
+-- deleted
 abbrev pub spent_leaf : ℕ → ℕ → Stored → ℕ
 spent_leaf max visibility x = if nat_le max x.count then leaf visibility x else NEVER
 
--- a message was received at most so often, and one that never was has no last receipt
+-- a message was received at most `max` times, and one that never was has no last receipt
 pub record IsWithin (max : ℕ) (x : Stored) : Type 0 where
   pub most : x.count ≤ max
   pub never : x.count ≡ 0 → x.last ≡ None
 
--- the earlier message was received with the later one each time
+-- the earlier message was received each time that the later one was
 pub record IsAhead (x y : Stored) : Type 0 where
   pub as_often : y.count ≤ x.count
   pub at_once : y.count ≡ x.count → x.last ≡ y.last
 
--- so it is in each group, of messages that are not deleted
+-- this holds in each group, for messages that are not deleted
 abbrev pub AreInOrder : List Stored → Type 0
 AreInOrder xs = (i j : ℕ) (x y : Stored) → i < j → slice_get xs i ≡ Some x → slice_get xs j ≡ Some y → same_group x y ≡ true → x.deleted ≡ false → y.deleted ≡ false → IsAhead x y
 
--- of the messages at the places those show at the moment that were received so often; the others show as before
+-- of the messages at these places, those that were received `max` times now show at this moment; all others show as
+-- before
 abbrev pub AreMarked : ℕ → QueueState → List ℕ → ℕ → List ℕ → List ℕ → Type 0
 AreMarked max q places show before after = (i : ℕ) → i < length before → slice_index after i ≡ (if holds places i && is_spent max q i then show else slice_index before i)
 

@@ -1,4 +1,4 @@
-// The messages of the dead-letter file, and their ids.
+// Reading the messages of the dead-letter file, and their ids.
 ghost use Rattle.std.specs.Prelude.{◌≡◌, ℕ, ◌<◌, ◌≤◌, ◌||◌, List, [], ◌∷◌, length, option_map, IfOk, IfErr, OnOk};
 ghost use Rattle.std.specs.List.{list_any};
 ghost use Rattle.std.specs.String.{string_bytes};
@@ -13,7 +13,7 @@ use std::alloc::Global;
 use std::collections::BTreeSet;
 use std::marker::Model;
 
-/// The ids of the messages of a dead-letter file, each once, in which one is looked up in logarithmic time.
+/// The ids of the messages of a dead-letter file, each once; a look-up takes logarithmic time.
 #[derive(Drop, Debug)]
 pub struct DeadIds {
     ids: BTreeSet<String>,
@@ -37,10 +37,10 @@ impl DeadIds {
     }
 }
 
-/// Why the ids of a dead-letter file are not known.
+/// Why the ids of a dead-letter file could not be read.
 #[derive(Clone, Copy, Debug, PartialEq, Eq)]
 pub enum DeadFileError {
-    /// The first payload that is no line of the queue's kind.
+    /// The payload with this index, counted from 0, is the first that is not a line of the queue's kind.
     BadLine(u32),
     OutOfMemory,
 }
@@ -62,7 +62,7 @@ fn has_line_feed(payload: &[u8]) -> bool
     payload.iter().any(|byte| *byte == b'\n')
 }
 
-/// The items that the payload reads as, by itself.
+/// The items that the payload reads as on its own.
 fn items_alone(alloc: Global, fifo: bool, payload: &[u8]) -> Result<Vec<Item>, OutOfMemory>
     ensures { IfOk result (λ items. AreItemsAlone fifo payload.now items.items) }
 {
@@ -72,7 +72,7 @@ fn items_alone(alloc: Global, fifo: bool, payload: &[u8]) -> Result<Vec<Item>, O
     Ok(fed.items)
 }
 
-/// The message of an item, where it is one.
+/// The message of an item, if it has one.
 fn message_of(item: Item) -> Option<Message>
     ensures { result ≡ message_in (item ∷ []) }
 {
@@ -82,7 +82,7 @@ fn message_of(item: Item) -> Option<Message>
     }
 }
 
-/// The message of the only item, where there is one.
+/// The message of the only item, if there is one.
 fn only_message(mut items: Vec<Item>) -> Option<Message>
     requires { length items.items ≤ 1 }
     ensures { result ≡ message_in items.items }
@@ -93,8 +93,8 @@ fn only_message(mut items: Vec<Item>) -> Option<Message>
     }
 }
 
-/// The message of a payload of the dead-letter file; `None` exactly where the payload is not one good line of the queue's
-/// kind by itself.
+/// Returns the message of a payload of the dead-letter file; `None` if and only if the payload, on its own, is not one
+/// good line of the queue's kind.
 pub fn dead_message(
     alloc: Global,
     fifo: bool,
@@ -109,7 +109,7 @@ pub fn dead_message(
     Ok(only_message(items))
 }
 
-/// The id of the message of a payload.
+/// The id of the message of a payload, if it has one.
 fn dead_id(alloc: Global, fifo: bool, payload: &[u8]) -> Result<Option<String>, OutOfMemory>
     ensures { IfOk result (λ id. option_map string_bytes id ≡ dead_id fifo payload.now) }
 {
@@ -126,7 +126,7 @@ fn add_id(ids: &mut BTreeSet<String>, id: String) -> Result<(), OutOfMemory>
     Ok(())
 }
 
-/// The ids of the messages of a dead-letter file.
+/// Returns the ids of the messages of a dead-letter file. `BadLine` names the first payload without a message.
 pub fn dead_ids(alloc: Global, fifo: bool, payloads: &[Bytes]) -> Result<DeadIds, DeadFileError>
     requires few { length payloads.now < u32.MAX }
     ensures ids { IfOk result (λ ids. HaveSameIds ids (dead_ids fifo payloads.now)) }

@@ -1,4 +1,4 @@
-// The line of a message that is moved to the dead-letter file.
+// Writing the line of a message that is moved to the dead-letter file.
 ghost use Rattle.std.specs.Prelude.{◌≡◌, ◌++◌, IfOk, OnOk};
 ghost use Rattle.std.specs.Str.{IsUtf8};
 ghost use Rattle.esm_model.specs.JsonText.{quoted};
@@ -11,7 +11,7 @@ use esm_event::json::push_quoted;
 use esm_model::{Message, OutOfMemory, Text};
 use std::alloc::Global;
 
-/// Appends the text between quotation marks. After an `Err` a part of it may stand there.
+/// Appends the text in quotation marks. After an `Err` a part of it may have been appended.
 fn push_text(out: &mut Vec<u8>, text: &Text) -> Result<(), OutOfMemory>
     ensures text { OnOk result (out.new.items ≡ out.old.items ++ quoted text.now) }
     ensures utf8 { IsUtf8 text.now }
@@ -19,7 +19,7 @@ fn push_text(out: &mut Vec<u8>, text: &Text) -> Result<(), OutOfMemory>
     push_quoted(out, text.as_str().as_bytes())
 }
 
-/// Appends the member of the group, where there is one. After an `Err` a part of it may stand there.
+/// Appends the member of the group, if there is one. After an `Err` a part of it may have been appended.
 fn push_group(out: &mut Vec<u8>, group: &Option<Text>) -> Result<(), OutOfMemory>
     ensures text { OnOk result (out.new.items ≡ out.old.items ++ group_member group.now) }
     ensures utf8 { OnOk result (IsUtf8Group group.now) }
@@ -34,7 +34,7 @@ fn push_group(out: &mut Vec<u8>, group: &Option<Text>) -> Result<(), OutOfMemory
     }
 }
 
-/// Appends the line. After an `Err` a part of it may stand there.
+/// Appends the line. After an `Err` a part of it may have been appended.
 fn push_letter(out: &mut Vec<u8>, message: &Message) -> Result<(), OutOfMemory>
     ensures text { OnOk result (out.new.items ≡ out.old.items ++ dead_letter message.now) }
     ensures utf8 { OnOk result (IsUtf8Message message.now) }
@@ -50,7 +50,7 @@ fn push_letter(out: &mut Vec<u8>, message: &Message) -> Result<(), OutOfMemory>
     Ok(())
 }
 
-/// The texts of a message are UTF-8. Does nothing.
+/// States that the texts of a message are UTF-8. Does nothing.
 pub fn has_texts(message: &Message)
     ensures { IsUtf8Message message.now }
 {
@@ -61,7 +61,8 @@ pub fn has_texts(message: &Message)
     }
 }
 
-/// The line of a dead letter, without its line feed: an input line of the message's queue, so that it can be fed again.
+/// Returns the line of a dead letter, without its line feed. It is an input line of the message's queue, so it can be fed
+/// again.
 pub fn dead_line(alloc: Global, message: &Message) -> Result<Vec<u8>, OutOfMemory>
     ensures text { IfOk result (λ line. line.items ≡ dead_letter message.now) }
     ensures reads_back { IfOk result (λ line. ReadsBack message.now line.items) }

@@ -1,6 +1,5 @@
-//! The parts of a redrive: the line of a dead letter, the ids of a dead-letter file, and a queue in which the next due
-//! message is found.
-//! Pure values; no device, clock or thread.
+//! The parts of a redrive: the line of a dead letter, the ids of a dead-letter file, and a queue that finds the next due
+//! message. Values in, values out: no device, clock or thread.
 #![tactic(auto)]
 
 mod dead_file;

@@ -1,4 +1,4 @@
-// The messages of a queue, each of which may be received so often, and the next of them that is due.
+// A queue that limits how often each message may be received, and finds the next message that is due.
 ghost use Rattle.std.specs.Prelude.{◌≡◌, ◌+◌, ◌≤◌, ◌<◌, ◌∷◌, [], All, not, length, slice_get, slice_set, if◌then◌else◌, OnOk, OnErr, IfOk, IsOk};
 ghost use Rattle.esm_model.specs.Moment.{capped_moment};
 ghost use Rattle.esm_model.specs.Moment as moments;
@@ -12,19 +12,19 @@ use esm_queue::{Queue, moment_after};
 use std::alloc::Global;
 use std::marker::Model;
 
-/// The most receives that a message may be allowed. Source: the SQS API Reference, `SetQueueAttributes`, `RedrivePolicy`
+/// The greatest limit of receives. Source: the SQS API Reference, `SetQueueAttributes`, `RedrivePolicy`
 /// (`maxReceiveCount`, 1 to 1,000).
 pub const MAX_RECEIVES: u32 = 1_000;
 
-/// A queue whose messages may be received so often. A message is due where it is eligible and was received as often as it
-/// may be; the first one is found without a look at those that are hidden. Moments are in milliseconds since 1970.
+/// A queue with a limit of receives for each message. A message is due if it is eligible and was received as often as it
+/// may be; the first one is found without looking at those that are hidden. Moments are in milliseconds since 1970.
 #[derive(Drop, Debug)]
 pub struct LimitedQueue {
     queue: Queue,
     visibility_ms: u64,
     max_receives: u32,
-    /// The moment at which a message shows that was received as often as it may be, `NEVER` for all others and where it is
-    /// deleted.
+    /// The moment at which a message becomes visible that was received as often as it may be; `NEVER` for all others, and
+    /// where it is deleted.
     spent: MomentTree,
 }
 
@@ -40,7 +40,7 @@ impl Model for LimitedQueue {
     ghost invariant = { λ q. IsKept q };
 }
 
-/// The message at the place shows at the moment, if it was received as often as it may be.
+/// Notes that the message at the place shows at this moment, if it was received as often as it may be.
 fn mark_one(queue: &Queue, spent: &mut MomentTree, place: u32, max_receives: u32, show: u64)
     requires { place < length spent.old.moments }
     ensures set { spent.new.moments ≡ (if is_spent max_receives queue.now.state place then slice_set spent.old.moments place show else spent.old.moments) }
@@ -51,7 +51,7 @@ fn mark_one(queue: &Queue, spent: &mut MomentTree, place: u32, max_receives: u32
     }
 }
 
-/// Of the messages at the places those show at the moment that were received as often as they may be.
+/// Notes the same for each of the messages at the places.
 fn mark_spent(queue: &Queue, spent: &mut MomentTree, places: &[u32], max_receives: u32, show: u64)
     requires { All (λ i. i < length spent.old.moments) places.now }
     ensures sized { length spent.new.moments ≡ length spent.old.moments }
@@ -64,7 +64,8 @@ fn mark_spent(queue: &Queue, spent: &mut MomentTree, places: &[u32], max_receive
 }
 
 impl LimitedQueue {
-    /// A queue without messages, FIFO or standard, of which each may be received so often.
+    /// Makes a queue without messages, FIFO or standard, with this visibility timeout in milliseconds and limit of
+    /// receives.
     pub fn new(
         alloc: Global,
         fifo: bool,
@@ -86,7 +87,7 @@ impl LimitedQueue {
         })
     }
 
-    /// Memory for so many further messages: the next `n` calls of `came` find room. No message changes.
+    /// Takes the memory for `n` more messages, so that the next `n` calls of `came` succeed. No message changes.
     pub fn reserve(&mut self, alloc: Global, n: u32) -> Result<(), OutOfMemory>
         ensures state { self.new.state ≡ self.old.state }
         ensures limit { self.new.max_receives ≡ self.old.max_receives }
@@ -97,8 +98,8 @@ impl LimitedQueue {
         self.spent.reserve(alloc, n)
     }
 
-    /// A message comes: its place. After `OutOfMemory`, which does not come within what `reserve` made, nothing has
-    /// changed.
+    /// Adds a message that arrives, and returns its place. After `OutOfMemory`, which is not returned within what
+    /// `reserve` took, nothing has changed.
     pub fn came(&mut self, alloc: Global, message: Message, moment: u64) -> Result<u32, OutOfMemory>
         requires few { length self.old.state.messages < u32.MAX }
         ensures ok { OnOk result (self.new.state ≡ after_arrival message (capped_moment moment) self.old.state) }
@@ -106,7 +107,7 @@ impl LimitedQueue {
         ensures err { OnErr result (self.new.state ≡ self.old.state) }
         ensures limit { self.new.max_receives ≡ self.old.max_receives }
 
-        // Within what was reserved it never refuses, and takes one of it.
+        // Within what was reserved it succeeds, and uses up at most one.
         ensures succeeds { 0 < self.old.spare → IsOk result }
         ensures spare { self.old.spare ≤ self.new.spare + 1 }
     {
@@ -116,7 +117,7 @@ impl LimitedQueue {
         Ok(place)
     }
 
-    /// Memory for a receipt at this moment: the next `hide` at it takes none. No message changes.
+    /// Takes the memory for a receipt at this moment, so that the next `hide` at it takes none. No message changes.
     pub fn prepare(&mut self, now: u64) -> Result<(), OutOfMemory>
         ensures ready { OnOk result (self.new.ready ≡ moments.moment_after (capped_moment now) self.old.state.visibility) }
         ensures state { self.new.state ≡ self.old.state }
@@ -127,7 +128,7 @@ impl LimitedQueue {
     }
 
     /// Receives the messages at the places, which are the first eligible ones, while none is due: they are hidden from
-    /// then on for the visibility timeout, and were received once more. Takes no memory.
+    /// then on for the visibility timeout, and each was received once more. Takes no memory.
     pub fn hide(&mut self, places: &[u32], now: u64)
         requires ready { self.old.ready ≡ moments.moment_after (capped_moment now) self.old.state.visibility }
         requires first { places.now ≡ receivable self.old.state (capped_moment now) (length places.now) }
@@ -147,7 +148,7 @@ impl LimitedQueue {
         );
     }
 
-    /// The message is deleted: whether it was not before. Takes no memory.
+    /// Deletes the message, and returns whether it was not deleted before. Takes no memory.
     pub fn delete(&mut self, place: u32) -> bool
         requires known { place < length self.old.state.messages }
         ensures answer { result ≡ not (is_deleted_at self.old.state place) }
@@ -160,14 +161,14 @@ impl LimitedQueue {
         is_new
     }
 
-    /// The first message that is due at the moment. Takes no memory, and looks at no message that is hidden.
+    /// Returns the first message that is due at the moment. Takes no memory, and looks at no message that is hidden.
     pub fn first_due(&self, now: u64) -> Option<u32>
         ensures { result ≡ slice_get (due_in self.now.max_receives self.now.state (capped_moment now)) 0 }
     {
         self.spent.first_from(0, now.min(MAX_MOMENT))
     }
 
-    /// The queue, to look at. Takes no memory.
+    /// Returns the queue, for reading. Takes no memory.
     pub fn queue(&self) -> &Queue
         ensures state { result.now.state ≡ self.now.state }
         ensures ready { result.now.ready ≡ self.now.ready }

@@ -6,9 +6,9 @@ use Rattle.esm_redrive_core.specs.declared.decisions.RedriveEntry.{RedriveEntry}
 use Rattle.esm_redrive_core.specs.RedriveView.{RedriveView}
 use Rattle.esm_redrive_core.specs.Told.{history_of, owed_of}
 
--- The core has what the history is judged over, the history with its newest entry first, and what was decided and is not
--- yet added. Beside it stand the journal and the dead-letter file as they are and as they were at opening, and why the book
--- is down, where it is.
+-- The core has the setting over which the history is judged, the history with its newest entry first, and what was
+-- decided and is not yet added. The state also has the journal and the dead-letter file as they are and as they were at
+-- opening, and why the book is down, if it is.
 abbrev pub BookState : Type 0 → Type 0 → Type 0
 BookState D T = DurableState RedriveView D T
 

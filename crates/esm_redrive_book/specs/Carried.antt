@@ -16,17 +16,17 @@ use Rattle.esm_redrive_book.specs.Books.{BookState}
 use Rattle.esm_redrive_book.specs.Calls.{AddedAll, AddedSome, AddedOne, IsSame}
 use Rattle.esm_redrive_book.specs.Keeping.{IsSound}
 
--- all messages after it
+-- all messages after the call
 abbrev pub messages_by : RedriveView → RedriveCall → List Message
 messages_by v asked = v.setting.queue.messages ++ coming_by asked
 
--- it is carried out whole
+-- the call was carried out whole
 pub record CarriedAll {D T : Type 0} (m : DiskMeaning D) (n : DestMeaning T) (old new : BookState D T) (asked : RedriveCall) (given : RedriveAnswer) : Type 0 where
   pub added : AddedAll m n (messages_by old.core asked) old new (entries_by old.core asked)
   pub answer_is : IsAnswer old.core asked given
   pub sound : IsSound new
 
--- a disk failed in it
+-- a disk failed during the call
 pub record CarriedSome {D T : Type 0} (m : DiskMeaning D) (n : DestMeaning T) (old new : BookState D T) (asked : RedriveCall) : Type 0 where
   pub added : AddedSome m n (messages_by old.core asked) old new (entries_by old.core asked) trouble.Disk
   pub cause : Rose (m.faults old.pair.used) (m.faults new.pair.used)
@@ -34,19 +34,19 @@ pub record CarriedSome {D T : Type 0} (m : DiskMeaning D) (n : DestMeaning T) (o
   pub answer_is : IsAnswer old.core asked given
   pub sound : IsSound new
 
--- the dead-letter file failed in it
+-- the dead-letter file failed during the call
 pub record Undelivered {D T : Type 0} (m : DiskMeaning D) (n : DestMeaning T) (old new : BookState D T) (asked : RedriveCall) : Type 0 where
   pub added : AddedSome m n (messages_by old.core asked) old new (entries_by old.core asked) trouble.Dest
   pub cause : Rose (n.faults old.dest) (n.faults new.dest)
   pub sound : IsSound new
 
--- it brought a change
+-- an arriving message differs from what was kept
 pub record FoundChange {D T : Type 0} (old new : BookState D T) (asked : RedriveCall) (change : Change) : Type 0 where
   pub refuses : Refuses old.core asked change
   pub rest : new ≡ record old { trouble = Some (trouble.Changed change) }
   pub sound : IsSound new
 
--- there was no memory for it
+-- an allocation failed
 pub record CarriedNone {D T : Type 0} (n : DestMeaning T) (old new : BookState D T) : Type 0 where
   pub same : IsSame n old new
   pub sound : IsSound new

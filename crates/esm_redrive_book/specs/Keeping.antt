@@ -20,25 +20,26 @@ use Rattle.esm_redrive_core.specs.Ahead.{comes_first}
 use Rattle.esm_redrive_core.specs.Told.{history_of, owed_of, redrive_entry, IsChange}
 use Rattle.esm_redrive_book.specs.Books.{BookState, payload_in}
 
--- the history with the entry is legal over every list of messages that goes on from those that came
+-- the history with the entry is legal over every list that extends the messages that arrived
 abbrev pub MayFollow : RedriveSetting → List Entry → Entry → Type 0
 MayFollow s h e = (messages : List Message) → ExtendsMessages s.queue.messages messages → LegalRedrive (redrive_over s messages) (e ∷ h)
 
--- the entry may follow a front of the history, after which calls and the input ended alone
+-- the entry may follow a prefix of the history, after which only calls and the input ended
 abbrev pub FollowsFront : RedriveSetting → List Entry → Entry → Type 0
 FollowsFront s h e = book.FollowsFront (MayFollow s) h e
 
--- the input has not ended, and each message that waits passes the filter and has no line that was found
+-- the input has not ended, and each waiting message passes the filter and has no line that was found
 pub record IsSorted (s : RedriveSetting) (h : List Entry) : Type 0 where
   pub going : is_shut h ≡ false
   pub recorded : known s h ≡ []
   pub sorted : unsorted_messages s.queue h ≡ []
 
--- The history is legal over the messages that came, and no others are coming. Where the book is not down nothing is owed, and
--- nothing is called for; nor is a message to be recorded or filtered where one came with another id than was kept, which it
--- does before the end of the input. The entry that was being written when a disk failed may follow a front of the history, and
--- so may the one whose line was being delivered when the dead-letter file failed. Where a disk failed exactly one entry was being
--- written, which has a payload; and where the dead-letter file failed the line of exactly one was being delivered.
+-- The history is legal over the messages that arrived, and no others are arriving. If the book is not down, nothing is
+-- owed and nothing is required. If a message arrived with another id than was kept, which happens before the end of the
+-- input, no message remains to be recorded or filtered. The entry that was being written when a disk failed may follow a
+-- prefix of the history, and so may the one whose line was being delivered when the dead-letter file failed. If a disk
+-- failed, exactly one entry was being written, and it has a payload; if the dead-letter file failed, the line of exactly
+-- one was being delivered.
 pub record IsSound {D T : Type 0} (b : BookState D T) : Type 0 where
   pub legal : LegalRedrive b.core.setting b.core.past
   pub settled : b.trouble ≡ None → SettledRedrive b.core.setting b.core.past
@@ -50,18 +51,20 @@ pub record IsSound {D T : Type 0} (b : BookState D T) : Type 0 where
   pub none_owed : b.trouble ≡ None → b.core.owed ≡ []
   pub none_coming : comes_first b.core.owed ≡ false
 
--- why a book is down: a disk of the journal or the dead-letter file failed since the opening, or a message was found deleted
--- and came with another id
+-- why a book is down: a disk of the journal or the dead-letter file failed since the opening, or a message that was found
+-- deleted arrived with another id
 abbrev pub IsCause : (disk_failed dest_failed : Type 0) → RedriveOpened → Option Trouble → Type 0
 IsCause disk_failed dest_failed o None = Unit {0}
 IsCause disk_failed dest_failed o (Some Disk) = disk_failed
 IsCause disk_failed dest_failed o (Some Dest) = dest_failed
 IsCause disk_failed dest_failed o (Some (Changed change)) = IsChange o change
 
--- the entries whose payloads a crash may leave: those of the history, and where a disk failed the one that was being written
+-- the entries whose payloads a crash may leave: those of the history, and if a disk failed, the one that was being
+-- written
 abbrev pub entries_left : {D T : Type 0} → BookState D T → List RedriveEntry
 entries_left b = reverse (history_of b.core) ++ in_hand b.trouble (owed_of b.core)
 
--- and those whose lines it may leave: those, and where the dead-letter file failed the one whose line was being delivered
+-- those whose lines a crash may leave: the same, and if the dead-letter file failed, the one whose line was being
+-- delivered
 abbrev pub lines_left : {D T : Type 0} → BookState D T → List RedriveEntry
 lines_left b = entries_left b ++ in_delivery b.trouble (owed_of b.core)

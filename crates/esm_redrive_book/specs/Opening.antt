@@ -16,9 +16,9 @@ use Rattle.esm_redrive_book.specs.declared.open_error.RedriveOpen.{RedriveOpen}
 use Rattle.esm_redrive_book.specs.declared.open_error.RedriveOpen.TheVariants.{BadPayload, BadLine, OutOfMemory}
 use Rattle.esm_redrive_book.specs.Books.{BookState}
 
--- A core in which no message came. No payload of the journal is bad, and the found deletions are those that its payloads
--- name, each place once and in rising order; each payload of the dead-letter file is a line of the queue's kind, and the
--- found ids are those of these lines.
+-- A core in which no message has arrived. No payload of the journal is bad, and the found deletions are those that its
+-- payloads name, each place once and in ascending order. Each payload of the dead-letter file is a line of the queue's
+-- kind, and the found ids are those of these lines.
 pub record IsCoreOver (config : Config) (calls visibility max_receives : ℕ) (payloads lines : List (List ℕ)) (v : RedriveView) : Type 0 where
   pub good : are_good (reverse payloads) ≡ true
   pub said : SaidLists
@@ -38,13 +38,13 @@ pub record IsOpened {D T : Type 0} (config : Config) (calls visibility max_recei
   pub found_dest : b.found_dest ≡ dest
   pub trouble : b.trouble ≡ None
 
--- the payload with the index is the first that is bad for a book
+-- the payload with this index is the first that is bad for a book
 abbrev pub IsBadJournal : List (List ℕ) → RedriveOpen → Type 0
 IsBadJournal payloads (BadPayload i) = IsFirstBad payloads (error.BadPayload i)
 IsBadJournal payloads (BadLine i) = ⊥
 IsBadJournal payloads OutOfMemory = Unit {0}
 
--- the payload of the dead-letter file with the index is the first that is no line of the queue's kind
+-- the payload of the dead-letter file with this index is the first that is not a line of the queue's kind
 abbrev pub IsBadFile : Bool → List (List ℕ) → RedriveOpen → Type 0
 IsBadFile fifo lines (BadPayload i) = ⊥
 IsBadFile fifo lines (BadLine i) = dead.IsFirstBad fifo lines i

@@ -1,4 +1,4 @@
-// One call of the core of a redrive over its devices, in the words of redrives.
+// One call of a redrive's core over its devices, with the errors that a redrive can have.
 ghost use Rattle.std.specs.Prelude.{◌≡◌, [], None, false, is_some};
 ghost use Rattle.esm_io.specs.Meanings.{disk, destination};
 ghost use Rattle.esm_model.specs.declared.entry.Entry.TheVariants.{Ended, Shut};
@@ -24,13 +24,13 @@ pub(crate) enum Stop {
     DiskFault,
     /// The dead-letter file failed in this call.
     DestFault,
-    /// A message was found deleted and came with another id; nothing of the call was taken.
+    /// A message that was found deleted arrived with another id; nothing of the call was taken.
     Changed(Change),
-    /// Want of memory; nothing has changed but room that was made.
+    /// An allocation failed; nothing has changed except reserved room.
     OutOfMemory,
 }
 
-/// What is true of the core, and of the devices where the book is not down. Does nothing.
+/// States what is true of the core, and of the devices if the book is not down. Does nothing.
 pub(crate) fn keeps<D: Disk, T: Dest>(durable: &Durable<RedriveCore, D, T>)
     ensures core { IsConsistent durable.now.core }
     ensures up { durable.now.trouble ≡ None → durable.now.pair.down ≡ false }
@@ -40,7 +40,7 @@ pub(crate) fn keeps<D: Disk, T: Dest>(durable: &Durable<RedriveCore, D, T>)
     durable.core().keeps();
 }
 
-/// Whether a call found trouble. Takes no memory.
+/// Whether a call failed for good. Takes no memory.
 pub(crate) fn is_down<D: Disk, T: Dest>(durable: &Durable<RedriveCore, D, T>) -> bool
     ensures value { result ≡ is_some durable.now.trouble }
     ensures up { result ≡ false → durable.now.trouble ≡ None }
@@ -80,7 +80,7 @@ pub(crate) fn carry<D: Disk, T: Dest>(
     }
 }
 
-/// Notes the end of a job's call, where the book is down: nothing that it calls for is added. Takes no memory.
+/// Notes the end of a job's call while the book is down: nothing that it requires is added. Takes no memory.
 pub(crate) fn note_end<D: Disk, T: Dest>(
     durable: &mut Durable<RedriveCore, D, T>,
     job: Job,
@@ -97,7 +97,7 @@ pub(crate) fn note_end<D: Disk, T: Dest>(
     keeps(durable);
 }
 
-/// Notes the end of the input, where the book is not down. Takes no memory.
+/// Notes the end of the input while the book is not down. Takes no memory.
 pub(crate) fn note_shut<D: Disk, T: Dest>(durable: &mut Durable<RedriveCore, D, T>, moment: u64)
     requires up { durable.old.trouble ≡ None }
     requires going { is_shut durable.old.core.past ≡ false }

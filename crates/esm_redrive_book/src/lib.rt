@@ -1,7 +1,7 @@
-//! The durable book of a redrive: messages come, batches are called, and a message that was received as often as it may be
-//! is moved. Its line stands in the dead-letter file before the journal has its deletion. Each call is one legal step of the
-//! history, and a crash at any moment leaves the payloads of whole entries alone.
-//! What it decides is `esm_redrive_core`; how it is written is `esm_book`. No clock and no thread.
+//! The durable book of a redrive: messages arrive, batches are called, and a message that was received as often as it may
+//! be is moved. Its line is in the dead-letter file before its deletion is in the journal. Each call is one legal step of
+//! the history, and a crash at any moment leaves only payloads of whole entries. `esm_redrive_core` makes its decisions,
+//! and `esm_book` writes them. No clock and no thread.
 #![tactic(auto)]
 
 mod carrying;

@@ -1,5 +1,5 @@
-// The moments of a redrive's entries, of those too that a failing device kept from being added: each law is the contract of a
-// function that does nothing.
+// Laws of the moments of a redrive's entries, including those that a failing device kept from being added, as contracts
+// of functions that do nothing.
 ghost use Rattle.std.specs.Prelude.{◌≡◌, ℕ, Bool, true, List, Option};
 ghost use Rattle.esm_io.specs.Meanings.{disk, destination};
 ghost use Rattle.esm_journal.specs.Pair.{PairState};
@@ -22,23 +22,23 @@ ghost use Rattle.esm_redrive_book.specs.Opening.{IsOpened};
 
 use esm_io::{Dest, Disk};
 
-/// All that a call decides has one moment: that which is handed in, or the last entry's where that is later.
+/// All that a call decides has one moment: the one that is passed in, or that of the last entry if it is later.
 pub fn entries_have_moment()
     ensures came { (v : RedriveView) (items : List Message) (moment : ℕ) → HaveMoment (moment_for v.past moment) (came_entries v items moment) }
     ensures next { (s : RedriveSetting) (h : List Entry) (m : ℕ) → HaveMoment m (redrive_next_entries s h m) }
     ensures ended { (s : RedriveSetting) (h : List Entry) (reply : Reply) (m : ℕ) → HaveMoment m (ended_entries s h reply m) }
 {}
 
-/// Whatever moments a clock gave, it gave those of the entries of a redrive that was just opened, and of those that it owes:
-/// there are none.
+/// A clock gave the moments of all entries of a redrive that was just opened, and of all that it owes: there are none.
 pub fn opened_is_timed<D: Disk, T: Dest>()
     ensures { (gave : ℕ → Bool) (config : Config) (calls visibility max_receives : ℕ) (lines : List (List ℕ)) (pair : PairState D) (dest : T)
         (b : BookState D T) →
         IsOpened config calls visibility max_receives lines pair dest b → IsTimedView gave b.core }
 {}
 
-/// Where a clock gave the moments of a redrive's entries and of those that it owes, so it is after a call whose moment the clock
-/// gave: after one that was carried out, one in which a device failed, and one of which one entry was noted.
+/// If a clock gave the moments of a redrive's entries and of those that it owes, this also holds after a call whose
+/// moment the clock gave: after one that was carried out, one in which a device failed, and one of which one entry was
+/// noted.
 pub fn moments_stay<D: Disk, T: Dest>()
     ensures all { (gave : ℕ → Bool) (moment : ℕ) (messages : List Message) (es : List Entry) (old new : BookState D T) → gave moment ≡ true →
         IsTimedView gave old.core →
@@ -50,8 +50,9 @@ pub fn moments_stay<D: Disk, T: Dest>()
         moment_of e ≡ moment_for old.core.past moment → AddedOne old new e → IsTimedView gave new.core }
 {}
 
-/// Then a clock gave the moment of the entry in hand, where a disk failed, and of the one whose line was being delivered, where
-/// the dead-letter file failed; each may follow a front of the history, and its moment is given behind that front.
+/// Then the clock also gave the moment of the entry in hand, if a disk failed, and of the one whose line was being
+/// delivered, if the dead-letter file failed. Each may follow a prefix of the history, and its moment is given after that
+/// prefix.
 pub fn hand_is_timed()
     ensures hand { (gave : ℕ → Bool) (v : RedriveView) (trouble : Option Trouble) → IsTimedView gave v → AreTimed gave (in_hand trouble v.owed) }
     ensures tried { (gave : ℕ → Bool) (v : RedriveView) (trouble : Option Trouble) → IsTimedView gave v → AreTimed gave (in_delivery trouble v.owed) }

@@ -1,14 +1,15 @@
-// Why a redrive is not opened.
+// Why a redrive could not be opened.
 use esm_io::Disk;
 use esm_journal::{Journal, Pair};
 use esm_model::OutOfMemory;
 
-/// Why a redrive is not opened.
+/// Why a redrive could not be opened.
 #[derive(Clone, Copy, Debug, PartialEq, Eq)]
 pub enum RedriveOpen {
-    /// The first payload of the journal that is bad for a book.
+    /// The payload with this index, counted from 0, is the first of the journal that is bad for a book.
     BadPayload(u32),
-    /// The first payload of the dead-letter file that is no line of the queue's kind.
+    /// The payload with this index, counted from 0, is the first of the dead-letter file that is not a line of the
+    /// queue's kind.
     BadLine(u32),
     OutOfMemory,
 }
@@ -24,7 +25,7 @@ impl From<OutOfMemory> for RedriveOpen {
     }
 }
 
-/// Why a redrive is not opened, with the journal and the dead-letter file as they were handed in.
+/// Why a redrive could not be opened, with the journal and the dead-letter file as they were passed in.
 #[derive(Drop)]
 pub struct RedriveRefused<D: Disk> {
     pub why: RedriveOpen,

@@ -1,4 +1,4 @@
-// What a journal's payloads say of a queue, the ids of its dead-letter file, and the filter of its mapping.
+// Reading what a journal's payloads say of a queue, the ids of its dead-letter file, and the filter of its mapping.
 ghost use Rattle.std.specs.Prelude.{◌≡◌, ◌≤◌, false, true, is_ok, IfOk, IfErr, OnOk, length, reverse};
 ghost use Rattle.esm_filter.specs.Criteria.{JudgesMessages};
 ghost use Rattle.esm_journal_state.specs.Meaning.{history, are_good};
@@ -33,7 +33,7 @@ fn is_fifo(kind: Kind) -> bool
     }
 }
 
-/// What the payloads of the journal say, the oldest first.
+/// What the payloads of the journal say; the payloads are oldest first.
 fn read_journal(alloc: Global, payloads: &[Bytes]) -> Result<Says, RedriveOpen>
     ensures told { IfOk result (λ said. Tells said (history (reverse payloads.now))) }
     ensures order { IfOk result (λ said. IsInOrder said) }
@@ -63,7 +63,7 @@ fn read_letters(alloc: Global, fifo: bool, lines: &[Bytes]) -> Result<DeadIds, R
     }
 }
 
-/// The filter of a mapping, whose texts are patterns.
+/// The filter of a mapping whose texts are patterns.
 fn read_filters(alloc: Global, config: &Config) -> Result<Criteria, OutOfMemory>
     requires config { IsQueueConfig config.now }
     requires patterns { is_ok (read_patterns (is_stream config.now.kind) config.now.filters) ≡ true }
@@ -108,11 +108,12 @@ fn core_over(
     )?)
 }
 
-/// A redrive in which no message came, for so many calls in all, with the deletions that the journal told of and the ids
-/// of the lines that stand in the dead-letter file. A message may be received so often, 1 to 1,000 times. `BadPayload`
-/// exactly where a payload of the journal is bad for a book, with the index of the first such one; where none is,
-/// `BadLine` exactly where a payload of the dead-letter file is no line of the queue's kind, with the index of the first
-/// such one. The journal and the dead-letter file are as before, and a refusal hands them back.
+/// Opens a redrive in which no message has arrived, for `calls` calls in all, with the deletions that the journal
+/// recorded and the ids of the lines in the dead-letter file. `visibility_ms` is the visibility timeout in milliseconds,
+/// and `max_receives`, 1 to 1,000, is how often a message may be received. `BadPayload`: a payload of the journal is bad
+/// for a book; it names the first such one. `BadLine`: no payload of the journal is bad, and a payload of the dead-letter
+/// file is not a line of the queue's kind; it names the first such one. The journal and the dead-letter file are only
+/// read, and an error gives them back.
 pub fn open_redrive<D: Disk>(
     alloc: Global,
     config: Config,

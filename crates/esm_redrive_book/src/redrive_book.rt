@@ -1,4 +1,5 @@
-// The book of a redrive: messages that come, calls of the batcher, moves and deletions, over a journal and a dead-letter file.
+// The book of a redrive: messages that arrive, calls of the batcher, moves and deletions, over a journal and a
+// dead-letter file.
 ghost use Rattle.std.specs.Prelude.{◌≡◌, ◌↔◌, ℕ, List, [], ◌++◌, None, Some, true, false, length, reverse, IfOk, IfErr, OnOk, OnErr, IsErrOf, IsSome};
 ghost use Rattle.std.specs.Option.{option_copied};
 ghost use Rattle.esm_io.specs.Faults.{Rose};
@@ -35,8 +36,8 @@ use std::alloc::Global;
 use std::marker::Model;
 use std::snapshot::Snapshot;
 
-/// What a redrive is made of: its history, oldest entry first, its journal and its dead-letter file; and why it is down,
-/// where it is.
+/// The parts of a redrive: its history, oldest entry first, why it is down, if it is, its journal and its dead-letter
+/// file.
 #[derive(Drop)]
 pub struct RedriveParts<D: Disk, T> {
     pub history: Vec<Entry>,
@@ -45,13 +46,13 @@ pub struct RedriveParts<D: Disk, T> {
     pub dead: T,
 }
 
-/// The book of a redrive: which messages came, which are being called, which are deleted and which are moved, with each
-/// deletion in a journal of two files, and each dead letter in a file of its own (Amazon SQS Developer Guide, "Using
-/// dead-letter queues"). After the first fault of a disk, or the first message that was found deleted and came with another
-/// id, it is down.
+/// The book of a redrive: which messages arrived, which are being called, which are deleted and which are moved. Each
+/// deletion is kept in a journal of two files, and each dead letter in a file of its own (Amazon SQS Developer Guide,
+/// "Using dead-letter queues"). After the first fault of a disk, or the first message that was found deleted and arrived
+/// with another id, the book is down.
 ///
-/// Moments are in milliseconds since 1970; an entry has the moment that is handed in, or that of the last entry where that
-/// is later, and at most 9999-12-31T23:59:59.999Z. Places count messages in order of arrival. There is one batcher.
+/// Moments are in milliseconds since 1970. An entry has the moment that is passed in, or that of the last entry if it is
+/// later, and at most 9999-12-31T23:59:59.999Z. Places count messages in order of arrival, from 0. There is one batcher.
 #[derive(Drop)]
 pub struct Redrive<D: Disk, T: Dest> {
     durable: Durable<RedriveCore, D, T>,
@@ -69,7 +70,7 @@ impl<D: Disk, T: Dest> Model for Redrive<D, T> {
 }
 
 impl<D: Disk, T: Dest> Redrive<D, T> {
-    /// A redrive whose core has no history, over devices that have not failed. Takes no memory.
+    /// Makes a redrive with this core, which has no history, over devices that have not failed. Takes no memory.
     pub(crate) fn over(core: RedriveCore, pair: Pair<D>, dead: T) -> Redrive<D, T>
         requires empty { core.past ≡ [] }
         requires rests { core.coming ≡ [] }
@@ -83,10 +84,11 @@ impl<D: Disk, T: Dest> Redrive<D, T> {
         }
     }
 
-    /// Messages come: one `Came` where there are any; then those are recorded as moved whose line was found, without a
-    /// second line; and then those of the others are deleted that fail the filter and were not found deleted. A list with a
-    /// message that was found deleted with another id is refused whole, and the first such message is told. After
-    /// `DiskFault` the entries that were written before the fault stay.
+    /// Adds messages that arrive: one `Came` if there are any; then those whose line was found are recorded as moved,
+    /// without a second line; then those of the others that fail the filter and were not found deleted are deleted. If a
+    /// message was found deleted with another id, the whole list is refused, and the error reports the first such
+    /// message; the book is then down. `Down`: an earlier call failed for good. After `DiskFault` the entries that were
+    /// written before the fault stay.
     pub fn came(&mut self, alloc: Global, items: Vec<Message>, moment: u64) -> Result<(), CameError>
         requires may { MayCome self.old.core items.items }
         // What is added, and what a crash leaves.
@@ -94,7 +96,7 @@ impl<D: Disk, T: Dest> Redrive<D, T> {
             (self.old.core.setting.queue.messages ++ items.items) self.old self.new (came_entries self.old.core items.items moment)) }
         ensures stopped { IsErrOf result CameError.DiskFault → AddedSome (disk D.Disk) (destination T.Dest)
             (self.old.core.setting.queue.messages ++ items.items) self.old self.new (came_entries self.old.core items.items moment) trouble.Disk }
-        // When each error comes, and what it leaves.
+        // When each error is returned, and what it leaves.
         ensures cause { IsErrOf result CameError.DiskFault → Rose (D.faults self.old.pair.used) (D.faults self.new.pair.used) }
         ensures changed { (change : Change) → IsErrOf result (CameError.StreamChanged change) →
             (self.old.trouble ≡ None) × IsFirstChange self.old.core items.items change
@@ -116,8 +118,8 @@ impl<D: Disk, T: Dest> Redrive<D, T> {
         }
     }
 
-    /// The input ended. `Down` exactly where an earlier call found trouble, and no other error; the book is then as before.
-    /// Takes no memory.
+    /// Notes the end of the input. `Down` is returned if and only if an earlier call failed for good, and is the only
+    /// error; the book is then as before. Takes no memory.
     pub fn shut(&mut self, moment: u64) -> Result<(), BookError>
         requires going { is_shut self.old.core.past ≡ false }
         ensures added { OnOk result (AddedOne self.old self.new (entry.Shut (moment_for self.old.core.past moment))) }
@@ -132,12 +134,14 @@ impl<D: Disk, T: Dest> Redrive<D, T> {
         Ok(())
     }
 
-    /// What the batcher does next. Where a message is due, the first one is moved: its line is appended to the dead-letter
-    /// file, and then its deletion to the journal. Else the first rule of a queue that holds decides, and a call begins
-    /// where that is a call. The batcher is not running a call.
+    /// Decides what the batcher does next. If a message is due, the first one is moved: its line is appended to the
+    /// dead-letter file, and then its deletion to the journal. Otherwise the first rule of a queue that holds decides; if
+    /// that is a call, it begins. No call is running. `DiskFault` and `DestFault`: the journal or the dead-letter file
+    /// failed, and the rest is owed. `Down`: an earlier call failed for good. `OutOfMemory`: an allocation failed, or the
+    /// history could exceed 2^40 entries; nothing has changed except reserved room.
     pub fn next(&mut self, alloc: Global, moment: u64) -> Result<Next, BookError>
         requires rests { is_running self.old.core.past (queue_lane 0) ≡ false }
-        // What is answered and added, and what a crash leaves.
+        // What is returned and added, and what a crash leaves.
         ensures answer { IfOk result (λ next. next ≡ redrive_next self.old.core.setting self.old.core.past (moment_for self.old.core.past moment)) }
         ensures added { OnOk result (AddedAll (disk D.Disk) (destination T.Dest)
             self.old.core.setting.queue.messages self.old self.new
@@ -149,7 +153,7 @@ impl<D: Disk, T: Dest> Redrive<D, T> {
             self.old.core.setting.queue.messages self.old self.new
             (redrive_next_entries self.old.core.setting self.old.core.past (moment_for self.old.core.past moment)) trouble.Dest }
         ensures runs { IfOk result (RunsCall self.new.core.past) }
-        // When each error comes, and what it leaves.
+        // When each error is returned, and what it leaves.
         ensures disk_cause { IsErrOf result BookError.DiskFault → Rose (D.faults self.old.pair.used) (D.faults self.new.pair.used) }
         ensures dest_cause { IsErrOf result BookError.DestFault → Rose (T.faults self.old.dest) (T.faults self.new.dest) }
         ensures down { IsErrOf result BookError.Down ↔ IsSome self.old.trouble }
@@ -169,9 +173,10 @@ impl<D: Disk, T: Dest> Redrive<D, T> {
         }
     }
 
-    /// The job's call came to this reply: its `Ended`, and then the deletion of the messages that succeeded and are not
-    /// deleted, where there are any; answers their number (Lambda Developer Guide, "Implementing partial batch responses").
-    /// On a book that is down the `Ended` alone is added. The job is the running one.
+    /// Ends the job's call with this reply: adds its `Ended`, and then the deletion of the messages that succeeded and
+    /// are not yet deleted, if there are any. Returns their number (Lambda Developer Guide, "Implementing partial batch
+    /// responses"). If the book is down, only the `Ended` is added, and `Down` is returned. The job is the running one.
+    /// `DiskFault`: a disk failed, and the rest is owed. `OutOfMemory`: as for `next`.
     pub fn done(
         &mut self,
         alloc: Global,
@@ -180,7 +185,7 @@ impl<D: Disk, T: Dest> Redrive<D, T> {
         moment: u64,
     ) -> Result<u32, BookError>
         requires runs { IsRunningJob self.old.core.past job }
-        // What is answered and added, and what a crash leaves.
+        // What is returned and added, and what a crash leaves.
         ensures answer { IfOk result (λ count. count ≡
             length (ended_places self.old.core.setting self.old.core.past reply (moment_for self.old.core.past moment))) }
         ensures added { OnOk result (AddedAll (disk D.Disk) (destination T.Dest)
@@ -190,7 +195,7 @@ impl<D: Disk, T: Dest> Redrive<D, T> {
             self.old.core.setting.queue.messages self.old self.new
             (ended_entries self.old.core.setting self.old.core.past reply (moment_for self.old.core.past moment)) trouble.Disk }
         ensures noted { IsErrOf result BookError.Down → AddedOne self.old self.new (entry.Ended job.lane reply (moment_for self.old.core.past moment)) }
-        // When each error comes, and what it leaves.
+        // When each error is returned, and what it leaves.
         ensures cause { IsErrOf result BookError.DiskFault → Rose (D.faults self.old.pair.used) (D.faults self.new.pair.used) }
         ensures no_dest { IsErrOf result BookError.DestFault → ⊥ }
         ensures down { IsErrOf result BookError.Down ↔ IsSome self.old.trouble }
@@ -221,20 +226,20 @@ impl<D: Disk, T: Dest> Redrive<D, T> {
         self.durable.core().is_shut()
     }
 
-    /// The first fault or change that a call answered; `None` exactly where none did. Its clauses say what the type keeps
-    /// of any redrive, whoever made its calls. Takes no memory.
+    /// Returns the first fault or change that a call reported; `None` if and only if there was none. Its clauses state
+    /// the invariant of every redrive, whoever made its calls. Takes no memory.
     pub fn trouble(&self) -> Option<&Trouble>
         ensures value { option_copied result ≡ self.now.trouble }
         ensures cause { IsCause (Rose (D.faults self.now.found.used) (D.faults self.now.pair.used))
             (Rose (T.faults self.now.found_dest) (T.faults self.now.dest)) (opened self.now.core) self.now.trouble }
-        // The history, and what the devices have beyond those that were handed in.
+        // The history, and what the devices have in addition to what was passed in.
         ensures sound { IsSound self.now }
         ensures consistent { IsConsistent self.now.core }
         ensures written { IsKept redrive_meaning (disk D.Disk) (destination T.Dest) self.now }
-        // What a crash leaves: of both disks since the opening, and now.
+        // What a crash leaves of both disks: at any moment since the opening, and now.
         ensures images { LeavesFronts redrive_meaning (disk D.Disk) (destination T.Dest)
             self.now.found self.now.pair self.now.found_dest self.now.dest (entries_left self.now) }
-        // And of the dead-letter file, by itself and beside the journal.
+        // What it leaves of the dead-letter file, alone and together with the journal.
         ensures letters { LeavesLetters (destination T.Dest) self.now }
         ensures lines_first { LinesStandFirst (disk D.Disk) (destination T.Dest) self.now self.now.dest }
         ensures kept { PairKeepsWhileUp (disk D.Disk) self.now.pair }
@@ -243,8 +248,8 @@ impl<D: Disk, T: Dest> Redrive<D, T> {
         self.durable.trouble()
     }
 
-    /// What the disks leave since a moment at which nobody had opened them yet, where each had one image then, as after a
-    /// crash or a sync. Does nothing.
+    /// States what a crash leaves of the disks since a moment before they were opened, if each had one image then, as
+    /// after a crash or a sync. Does nothing.
     pub fn since_before(&self, journal: &Snapshot<D>, spare: &Snapshot<D>)
         requires first { IsOnlyRead (disk D.Disk) journal.now.value (first_disk self.now.found) }
         requires second { IsOnlyRead (disk D.Disk) spare.now.value (second_disk self.now.found) }
@@ -258,8 +263,8 @@ impl<D: Disk, T: Dest> Redrive<D, T> {
         self.durable.since_before(journal, spare);
     }
 
-    /// The history, the first fault or change that a call answered, the journal and the dead-letter file, as the calls left
-    /// them. Takes no memory.
+    /// Returns the history, the first fault or change that a call reported, the journal and the dead-letter file, as the
+    /// calls left them. Takes no memory.
     pub fn into_parts(self) -> RedriveParts<D, T>
         ensures history { result.history.items ≡ reverse self.core.past }
         ensures trouble { result.trouble ≡ self.trouble }

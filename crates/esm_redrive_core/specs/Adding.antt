@@ -1,4 +1,4 @@
--- What each call of the core of a redrive adds. Sources: the Amazon SQS Developer Guide, "Using dead-letter queues"; the
+-- What each call of a redrive's core adds. Sources: the Amazon SQS Developer Guide, "Using dead-letter queues"; the
 -- Lambda Developer Guide, "Using Lambda with Amazon SQS".
 use Rattle.std.specs.Prelude.{ℕ, List, [], ◌∷◌, ◌++◌, length, Some, None, option_map}
 use Rattle.esm_model.specs.declared.item.Message.{Message}
@@ -20,10 +20,10 @@ use Rattle.esm_redrive_core.specs.Coming.{known_from, dropped_from}
 use Rattle.esm_redrive_core.specs.Sound.{ended_places}
 use Rattle.esm_redrive_core.specs.RedriveView.{RedriveView}
 
--- messages come
+-- messages arrive
 
--- the entries of a list from place k on: those whose line was found are recorded as moved, and those of the others that
--- fail the filter are deleted
+-- the entries of a list from place k on: messages whose line was found are recorded as moved, and those of the others
+-- that fail the filter are deleted
 abbrev pub came_from : RedriveSetting → ℕ → List Message → ℕ → List Entry
 came_from s k [] m = []
 came_from s k (x ∷ xs) m = Came 0 k (length (x ∷ xs)) m ∷ (gave_entries None (known_from s k (x ∷ xs)) Exhausted m ++ gave_entries None (dropped_from s k (x ∷ xs)) Filtered m)
@@ -33,12 +33,12 @@ came_entries v items moment = came_from v.setting (length v.setting.queue.messag
 
 -- what the batcher does next
 
--- where the first message that is due is moved
+-- the first message that is due is moved, if there is one
 abbrev pub next_due : List ℕ → Next → Next
 next_due [] answer = answer
 next_due (i ∷ places) answer = next.Gave 1
 
--- a message that is due is moved, before any of the rules of a queue
+-- a message that is due is moved before any rule of a queue is applied
 abbrev pub redrive_next : RedriveSetting → List Entry → ℕ → Next
 redrive_next s h m = next_due (due_in s.max_receives (queue_of s.queue h) m) (next_for s.queue h 0 m)
 
@@ -56,6 +56,6 @@ redrive_next_entries s h m = entries_due s m (due_in s.max_receives (queue_of s.
 
 -- the call ends
 
--- the end, and then the deletion of the messages that succeeded, where there is any
+-- the end, and then the deletion of the messages that succeeded, if there are any
 abbrev pub ended_entries : RedriveSetting → List Entry → Reply → ℕ → List Entry
 ended_entries s h reply m = Ended (queue_lane 0) reply m ∷ gave_entries (Some (queue_lane 0)) (ended_places s h reply m) Succeeded m

@@ -1,5 +1,5 @@
--- What is true of each core of a redrive, and what its decisions leave of a history that is legal and settled. This product's
--- own.
+-- What is true of every core of a redrive, and what its decisions leave of a history that is legal and settled. This
+-- product's own.
 use Rattle.std.specs.Prelude.{◌≡◌, ◌≤◌, Bool, true, false, List, [], ◌∷◌, ◌++◌, length, reverse}
 use Rattle.std.specs.List.{All}
 use Rattle.esm_model.specs.declared.item.Message.{Message}
@@ -23,14 +23,14 @@ abbrev pub is_coming : Entry → Bool
 is_coming (Came shard first count moment) = true
 is_coming _ = false
 
--- the first of the entries brings messages
+-- the first of the entries is the arrival of messages
 abbrev pub comes_first : List Entry → Bool
 comes_first [] = false
 comes_first (e ∷ es) = is_coming e
 
--- it is a queue's, with a limit that may be set; the messages that came are those that its history tells, and it is told alike
--- over each list that goes on from them; each is valid, and its dead letter is found as this message again; and messages are
--- coming only where their `Came` is owed first
+-- The mapping is a queue's, with a limit that may be set. The messages that arrived are those of its history, whose
+-- entries are the same over every longer list of messages. Each message is valid, and its dead letter reads back as it.
+-- Messages are arriving only if their `Came` is owed first.
 pub record IsConsistent (v : RedriveView) : Type 0 where
   pub queue : is_stream v.setting.queue.config.kind ≡ false
   pub some_receives : 1 ≤ v.setting.max_receives
@@ -43,7 +43,7 @@ pub record IsConsistent (v : RedriveView) : Type 0 where
   pub rests : comes_first v.owed ≡ false → v.coming ≡ []
   pub in_time : last_moment v.past ≤ MAX_MOMENT
 
--- over all lists that go on from the messages that came and those that are coming, the history with all owed entries on it is
--- legal, and nothing more is called for
+-- over every list that extends the messages that arrived and those that are arriving, the history with all owed entries
+-- is legal, and requires nothing more
 abbrev pub SoundAhead : RedriveView → Type 0
 SoundAhead v = (messages : List Message) → ExtendsMessages (all_messages v) messages → Sound (redrive_over v.setting messages) (reverse v.owed ++ v.past)

@@ -1,4 +1,4 @@
--- The view of the core of a redrive, and what is true of each. Only this crate's proofs cite this.
+-- What contracts see of the core of a redrive, and its invariant. Only this crate's proofs cite this.
 use Rattle.std.specs.Prelude.{length, reverse}
 use Rattle.std.specs.Vec.{vec_capacity}
 use Rattle.esm_redrive_core.specs.declared.redrive_core.RedriveCore.TheInside.{Inside}

@@ -1,4 +1,4 @@
--- What is kept of the core of a redrive. Only this crate's proofs cite this.
+-- The invariant of a redrive's core. Only this crate's proofs cite this.
 use Rattle.std.specs.Prelude.{◌≡◌, ℕ, ◌+◌, ◌<◌, ◌≤◌, ◌^◌, Bool, List, [], ◌∷◌, ◌++◌, length, map, Option, Some, None, ⊤, if◌then◌else◌}
 use Rattle.std.specs.List.{All}
 use Rattle.esm_model.specs.declared.limits.TheConstants.{MAX_BATCH, MAX_LINE, MAX_PAYLOAD}
@@ -44,7 +44,7 @@ owed_entries first gifts = first_entries first ++ gift_entries gifts
 
 -- the parts of a core
 
--- what is kept of it; the history has its newest entry first, and `number` is its length; the gifts stand in the order in
+-- the fields of a core; the history has its newest entry first, and `number` is its length; the gifts are in the order in
 -- which they are paid
 pub record Parts : Type 0 where
   pub config : Config
@@ -66,7 +66,7 @@ pub record Parts : Type 0 where
   pub first : Option First
   pub gifts : List Gift
 
--- the queue's setting, of the messages that came
+-- the queue's setting, with the messages that arrived
 abbrev pub own : Parts → QueueSetting
 own p = record { config = p.config; calls = p.calls; visibility = p.visibility; messages = messages_stored p.limited.state; deletions = p.deletions }
 
@@ -76,19 +76,19 @@ setting_of p = record { queue = own p; max_receives = p.limited.max_receives; de
 abbrev pub seen_of : Parts → RedriveView
 seen_of p = record { setting = setting_of p; past = p.past; coming = p.coming; owed = owed_entries p.first p.gifts }
 
--- with the messages that are coming
+-- the messages that arrived, and those that are arriving
 abbrev pub all_of : Parts → List Message
 all_of p = messages_stored p.limited.state ++ p.coming
 
--- room
+-- room in the history
 
--- the entries that an owed one makes room for: itself, and the end of a call that begins
+-- for how many entries an owed one needs room: itself, and the end of a call that begins
 abbrev pub first_cost : Option First → ℕ
 first_cost None = 0
 first_cost (Some (Began lane places moment)) = 2
 first_cost (Some _) = 1
 
--- for what is owed, the end of the call that runs, and the end of the input
+-- for what is owed, for the end of the running call, and for the end of the input
 abbrev pub cost : Option First → List Gift → Bool → Bool → ℕ
 cost first gifts running shut = first_cost first + length gifts + (if running then 1 else 0) + (if shut then 0 else 1)
 
@@ -113,7 +113,7 @@ CanAddFirst q coming (Some (Ended lane reply moment)) = (coming ≡ []) × (lane
 abbrev pub gift_line : Gift → Option (List ℕ)
 gift_line g = g.line
 
--- what the journal has of it is short
+-- its payload fits into the journal
 abbrev pub HasShortPayload : Gift → Type 0
 HasShortPayload g = length g.payload.items ≤ MAX_PAYLOAD
 
@@ -124,7 +124,7 @@ abbrev pub IsShortLine : Option (List ℕ) → Type 0
 IsShortLine None = ⊤
 IsShortLine (Some line) = length line ≤ MAX_LINE
 
--- of the deletions the first alone may have a line
+-- of the owed deletions, only the first may have a line
 abbrev pub HaveLineFirst : List Gift → Type 0
 HaveLineFirst [] = ⊤
 HaveLineFirst (g ∷ gifts) = IsShortLine g.line × (written_of gift_line gifts ≡ [])
@@ -135,7 +135,7 @@ pub record IsGiftOf (messages : List Message) (gift : Gift) : Type 0 where
   pub short : length gift.payload.items ≤ MAX_PAYLOAD
   pub in_time : gift.moment ≤ MAX_MOMENT
 
--- the batch of the last call: places of messages that came, which rise and are few
+-- the batch of the last call: places of messages that arrived, in ascending order, and within the greatest batch
 pub record IsBatch (n : ℕ) (places : List ℕ) : Type 0 where
   pub within : All (λ i. i < n) places
   pub rising : IsRisingFrom 0 places
@@ -147,14 +147,14 @@ IsCovered n (entry.Came shard first count moment) = first + count ≤ n
 IsCovered n (entry.Gave by shard places fate line state moment) = All (λ i. i < n) places
 IsCovered n _ = ⊤
 
--- all that is kept agrees with the history
+-- the fields agree with the history
 pub record IsKept (p : Parts) : Type 0 where
   pub config : IsQueueConfig p.config
   pub criteria : JudgesMessages p.config.kind p.config.filters p.criteria
   pub valid : All (IsValidMessage p.config.kind) (all_of p)
   pub texts : All IsUtf8Message (all_of p)
   pub few : length (all_of p) < 2 ^ 32
-  -- the queue is that of the history over all lists that go on from the messages that came
+  -- the queue is that of the history, over every list that extends the messages that arrived
   pub queue : (messages : List Message) → ExtendsMessages (messages_stored p.limited.state) messages → p.limited.state ≡ queue_of (over_messages (own p) messages) p.past
   pub stored : All (IsValidStored p.config.kind) p.limited.state.messages
   pub count : length p.limited.state.messages ≡ queue_count p.past

@@ -1,10 +1,10 @@
--- What the queue of a redrive is ready for where a call begins. Only this crate's proofs cite this.
+-- What the queue of a redrive is prepared for when a call begins. Only this crate's proofs cite this.
 use Rattle.std.specs.Prelude.{◌≡◌, ℕ, ⊤, Option, Some, None}
 use Rattle.esm_model.specs.Moment.{moment_after, capped_moment}
 use Rattle.esm_queue_core.specs.declared.owed.First.{First}
 use Rattle.esm_redrive.specs.Limited.{Limited}
 
--- for the receipt of the call that begins at the moment, if one does
+-- for the receipt of the call that begins at the moment, if one begins
 abbrev pub IsReadyFor : Option First → Limited → ℕ → Type 0
 IsReadyFor None queue m = ⊤
 IsReadyFor (Some first) queue m = queue.ready ≡ moment_after (capped_moment m) queue.state.visibility

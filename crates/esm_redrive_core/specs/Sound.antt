@@ -16,17 +16,17 @@ use Rattle.esm_redrive_model.specs.RedriveSetting.{RedriveSetting}
 use Rattle.esm_redrive_model.specs.RedriveStep.{SettledRedrive, MayMove, MayBeginRedrive, LegalRedrive}
 use Rattle.esm_redrive_core.specs.Coming.{known_from, dropped_from}
 
--- legal, and nothing is called for
+-- legal, and requiring nothing
 pub record Sound (s : RedriveSetting) (h : List Entry) : Type 0 where
   pub legal : LegalRedrive s h
   pub settled : SettledRedrive s h
 
--- the history with a deletion of the places on it, where there are any
+-- the history, followed by a deletion of the places if there are any
 abbrev pub gave_on : Option LaneId → List ℕ → Fate → ℕ → List Entry → List Entry
 gave_on by [] fate m h = h
 gave_on by (i ∷ places) fate m h = Gave by 0 (i ∷ places) fate None None m ∷ h
 
--- these messages go on from those that came, and may come at the moment
+-- these messages extend those that arrived, and may arrive at the moment
 pub record Brings (s : RedriveSetting) (h : List Entry) (old xs : List Message) (m : ℕ) : Type 0 where
   pub all : s.queue.messages ≡ old ++ xs
   pub number : queue_count h ≡ length old
@@ -35,7 +35,7 @@ pub record Brings (s : RedriveSetting) (h : List Entry) (old xs : List Message) 
   pub kept : IsKeptMessage s.queue (length old) (length xs)
   pub later : IsLater h m
 
--- the history with these messages, and with those of them recorded as moved whose line was found
+-- the history, followed by the arrival of these messages, and by a record that those whose line was found were moved
 abbrev pub recorded_on : RedriveSetting → List Message → List Message → ℕ → List Entry → List Entry
 recorded_on s old xs m h = gave_on None (known_from s (length old) xs) Exhausted m (Came 0 (length old) (length xs) m ∷ h)
 
@@ -48,7 +48,7 @@ MoveIsSound s h = (lane : LaneId) (shard : ℕ) (places : List ℕ) (line : Opti
 abbrev pub CallIsSound : RedriveSetting → List Entry → Type 0
 CallIsSound s h = (lane : LaneId) (places : List ℕ) (m : ℕ) → IsLater h m → MayBeginRedrive s h lane places m → Sound s (Began lane places None m ∷ h)
 
--- the places that the end of the call makes deleted: those that succeeded and are not deleted
+-- the places that the end of the call deletes: those of messages that succeeded and are not yet deleted
 abbrev pub ended_places : RedriveSetting → List Entry → Reply → ℕ → List ℕ
 ended_places s h reply m = owed_places s.queue (Ended (queue_lane 0) reply m ∷ h) (queue_lane 0)
 

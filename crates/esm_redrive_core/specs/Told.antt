@@ -1,4 +1,4 @@
--- The entries of a redrive's core as a book over devices tells them, and what its calls decide. This product's own.
+-- The entries of a redrive's core as a book over devices sees them, and what its calls decide. This product's own.
 use Rattle.std.specs.Prelude.{◌≡◌, ◌+◌, ◌^◌, ◌<◌, ◌≤◌, List, [], ◌∷◌, ◌++◌, length, map, take, drop, reverse, Some, false}
 use Rattle.std.specs.List.{All}
 use Rattle.esm_model.specs.declared.limits.TheConstants.{MAX_BATCH}
@@ -28,12 +28,12 @@ use Rattle.esm_redrive_core.specs.Sound.{ended_places}
 
 -- entries
 
--- the messages that an entry covers, of the list of all
+-- the messages that an entry covers, from the list of all
 abbrev pub messages_of : List Message → Entry → List Message
 messages_of messages (Came shard first count moment) = take count (drop first messages)
 messages_of messages _ = []
 
--- with what is written of it
+-- the entry with what is written of it
 abbrev pub redrive_entry : List Message → Entry → RedriveEntry
 redrive_entry messages e = record { told = record { entry = e; records = []; messages = messages_of messages e }; payload = queue_payload messages e; line = entry_line e }
 
@@ -46,11 +46,11 @@ history_of v = redrive_entries (all_messages v) v.past
 abbrev pub owed_of : RedriveView → List RedriveEntry
 owed_of v = redrive_entries (all_messages v) v.owed
 
--- as they are told, with the messages that they cover
+-- the entries with the messages that they cover, as `Told` has them
 abbrev pub told_entries : List Message → List Entry → List Told
 told_entries messages es = map (λ (x : RedriveEntry). x.told) (redrive_entries messages es)
 
--- the whole history so, its oldest entry first
+-- the whole history in this form, oldest entry first
 abbrev pub told_of : RedriveView → List Told
 told_of v = told_entries (all_messages v) (reverse v.past)
 
@@ -66,7 +66,7 @@ opened v = record {
 
 -- calls
 
--- messages may come to a core that is not shut
+-- messages may arrive at a core that is not shut
 pub record MayCome (v : RedriveView) (items : List Message) : Type 0 where
   pub going : is_shut v.past ≡ false
   pub few : length items ≤ MAX_BATCH
@@ -79,19 +79,19 @@ MayAsk v (call.Shut moment) = is_shut v.past ≡ false
 MayAsk v (call.Next moment) = is_running v.past (queue_lane 0) ≡ false
 MayAsk v (call.Done job reply moment) = IsRunningJob v.past job
 
--- the messages that come with it
+-- the messages that arrive with the call
 abbrev pub coming_by : RedriveCall → List Message
 coming_by (call.Came items moment) = items.items
 coming_by _ = []
 
--- the entries that it adds, oldest first
+-- the entries that the call adds, oldest first
 abbrev pub entries_by : RedriveView → RedriveCall → List Entry
 entries_by v (call.Came items moment) = came_entries v items.items moment
 entries_by v (call.Shut moment) = []
 entries_by v (call.Next moment) = redrive_next_entries v.setting v.past (moment_for v.past moment)
 entries_by v (call.Done job reply moment) = ended_entries v.setting v.past reply (moment_for v.past moment)
 
--- it is answered so; messages are taken where none was found deleted with another id, and the end of the input is noted, and
+-- the answer to the call; messages are taken if none was found deleted with another id; the end of the input is noted and
 -- not decided
 abbrev pub IsAnswer : RedriveView → RedriveCall → RedriveAnswer → Type 0
 IsAnswer v (call.Came items moment) answer.Taken = NoneHasChanged v.setting.queue.deletions (length v.setting.queue.messages) items.items (length items.items)
@@ -107,7 +107,7 @@ abbrev pub Refuses : RedriveView → RedriveCall → Change → Type 0
 Refuses v (call.Came items moment) change = IsFirstChange v items.items change
 Refuses v _ change = ⊥
 
--- the message at the place was found deleted, and another id is given now than was kept
+-- the message at the place was found deleted, and the id that is given now differs from the one that was kept
 pub record IsChange (o : RedriveOpened) (change : Change) : Type 0 where
   pub found : FoundDeletion
   pub queue : change.shard ≡ 0

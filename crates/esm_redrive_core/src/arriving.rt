@@ -1,4 +1,4 @@
-// What a list of messages brings to a redrive.
+// What a list of messages that arrives at a redrive adds.
 ghost use Rattle.std.specs.Prelude.{◌≡◌, ◌+◌, ◌<◌, ◌≤◌, ◌^◌, ◌++◌, [], All, IfOk, OnOk, None, length, reverse};
 ghost use Rattle.esm_model.specs.declared.limits.TheConstants.{MAX_BATCH};
 ghost use Rattle.esm_model.specs.declared.moment.TheConstants.{MAX_MOMENT};
@@ -24,7 +24,7 @@ use esm_queue::Queue;
 use esm_redrive::{DeadIds, has_texts};
 use std::alloc::Global;
 
-/// Whether the message that comes at the place was not found deleted, and its line stands in the dead-letter file.
+/// Whether the message that arrives at the place was not found deleted, and its line is in the dead-letter file.
 fn is_known(said: &Says, dead: &DeadIds, item: &Message, place: u32) -> bool
     ensures { (s : RedriveSetting) → s.queue.deletions ≡ said.now.deletions → s.dead_ids ≡ dead.now → result ≡ is_known_at s place item.now }
 {
@@ -34,7 +34,7 @@ fn is_known(said: &Says, dead: &DeadIds, item: &Message, place: u32) -> bool
     }
 }
 
-/// Whether it has neither a found deletion nor a line, and fails the filter.
+/// Whether the message was not found deleted, has no line, and fails the filter.
 fn is_dropped(
     alloc: Global,
     said: &Says,
@@ -56,7 +56,7 @@ fn is_dropped(
     }
 }
 
-/// The texts of the messages are UTF-8. Does nothing.
+/// States that the texts of the messages are UTF-8. Does nothing.
 fn have_texts(items: &[Message])
     ensures { All IsUtf8Message items.now }
 {
@@ -65,7 +65,7 @@ fn have_texts(items: &[Message])
     }
 }
 
-/// The places of the messages, from the place `from` on, whose line was found.
+/// The places of the messages whose line was found and that were not found deleted; the list begins at the place `from`.
 pub(crate) fn known(
     alloc: Global,
     said: &Says,
@@ -87,7 +87,7 @@ pub(crate) fn known(
     Ok(places)
 }
 
-/// The places of those of the others that fail the filter and have no found deletion.
+/// The places of the other messages that fail the filter and were not found deleted.
 pub(crate) fn dropped(
     alloc: Global,
     said: &Says,
@@ -110,8 +110,9 @@ pub(crate) fn dropped(
     Ok(places)
 }
 
-/// The deletions that messages call for which come from the place `from` on: those whose line was found are recorded as
-/// moved, and those of the others that fail the filter and were not found deleted are deleted. The last one is paid first.
+/// The deletions that arriving messages require; the list begins at the place `from`. Messages whose line was found are
+/// recorded as moved, and those of the others that fail the filter and were not found deleted are deleted. The last
+/// deletion is paid first.
 pub(crate) fn gifts_for(
     alloc: Global,
     config: &Config,

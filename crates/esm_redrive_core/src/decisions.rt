@@ -10,7 +10,7 @@ use esm_model::{
 use std::alloc::Global;
 use std::collections::LinkedList;
 
-/// What a core was opened with. Only contracts speak of it: no value is made.
+/// What a core was opened with. Only contracts use it: no value is made.
 pub struct RedriveOpened {
     pub config: Config,
     pub calls: u32,
@@ -20,8 +20,8 @@ pub struct RedriveOpened {
     pub dead_ids: LinkedList<Bytes>,
 }
 
-/// An entry, with the messages that it covers, what the journal has of it, and its line in the dead-letter file. Only
-/// contracts speak of it: no value is made.
+/// An entry, with the messages that it covers, its payload in the journal, and its line in the dead-letter file. Only
+/// contracts use it: no value is made.
 pub struct RedriveEntry {
     pub told: Told,
     pub payload: Option<Bytes>,
@@ -31,13 +31,13 @@ pub struct RedriveEntry {
 /// A call of a redrive's book. Moments are in milliseconds since 1970.
 #[derive(Drop)]
 pub enum RedriveCall {
-    /// Messages come.
+    /// Messages arrive.
     Came(Vec<Message>, u64),
     /// The input ended.
     Shut(u64),
-    /// The batcher asks what it is to do.
+    /// The batcher asks what to do next.
     Next(u64),
-    /// The job's call of the function came to this reply.
+    /// The job's call of the function ended with this reply.
     Done(Job, Reply, u64),
 }
 
@@ -46,7 +46,7 @@ pub enum RedriveCall {
 pub enum RedriveAnswer {
     Taken,
     Next(Next),
-    /// So many messages are deleted.
+    /// This many messages are deleted.
     Deleted(u32),
 }
 
@@ -107,7 +107,7 @@ impl Decisions for RedriveCore {
         self.owed_lengths(alloc)
     }
 
-    /// A line is owed where a message is moved; it is no longer than a line may be.
+    /// A line is owed if a message is moved; it is at most `MAX_LINE` bytes long.
     fn owed_line_bound(&self) -> Option<u64> {
         if self.owes_line() {
             Some(MAX_LINE as u64)

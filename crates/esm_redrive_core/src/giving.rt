@@ -1,4 +1,4 @@
-// The deletions that calls of a redrive owe.
+// Making the deletions that calls of a redrive owe.
 ghost use Rattle.std.specs.Prelude.{Bool, ◌≡◌, ◌+◌, ◌≤◌, ◌<◌, ◌++◌, ◌∷◌, [], All, IfOk, OnOk, Some, None, length, option_map, slice_get, reverse};
 ghost use Rattle.esm_model.specs.declared.entry.Entry.TheVariants.{Gave};
 ghost use Rattle.esm_model.specs.declared.entry.Fate.TheVariants.{Exhausted};
@@ -20,7 +20,7 @@ use esm_queue_core::gift::texts_at;
 use esm_redrive::dead_line;
 use std::alloc::Global;
 
-/// The deletion of the places, of which there are some, with this line.
+/// The deletion of one place or more, with this line.
 fn gift_of(
     alloc: Global,
     queue: &Queue,
@@ -56,7 +56,7 @@ fn gift_of(
     })
 }
 
-/// Puts the deletion of the places, where there are any, before those that are owed; the last one is paid first. After an
+/// Puts the deletion of the places, if there are any, ahead of those that are owed; the last one is paid first. After an
 /// `Err` they are as before.
 pub(crate) fn owe_first(
     alloc: Global,
@@ -84,7 +84,7 @@ pub(crate) fn owe_first(
     Ok(())
 }
 
-/// The line of a dead letter, as a text.
+/// The line of a dead letter, as text.
 fn letter_of(alloc: Global, message: &Message) -> Result<Text, OutOfMemory>
     requires { (fifo : Bool) × IsValidMessage (queue_kind fifo) message.now }
     ensures text { IfOk result (λ line. line ≡ dead_letter message.now) }
@@ -97,7 +97,7 @@ fn letter_of(alloc: Global, message: &Message) -> Result<Text, OutOfMemory>
     }
 }
 
-/// The message at the place is moved, with its line.
+/// The deletion that moves the message at the place, with its line.
 pub(crate) fn move_of(
     alloc: Global,
     queue: &Queue,

@@ -1,6 +1,6 @@
-//! The decisions of a redrive, without its devices: which entry may come next, and what its batcher is to do. A message that
-//! was received as often as it may be is moved, with its line, before any call.
-//! Pure: values in, values out. No device, clock or thread.
+//! The decisions of a redrive, without its devices: which entry may come next, and what its batcher does. A message that
+//! was received as often as it may be is moved, with its line, before any call. Values in, values out: no device, clock
+//! or thread.
 #![tactic(auto)]
 
 mod arriving;

@@ -1,4 +1,4 @@
-// The moment and the reply of an entry that is noted, and the room that a history has for what a call owes.
+// The moment and the reply of an entry, and the room that a history needs for what a call owes.
 ghost use Rattle.std.specs.Prelude.{◌≡◌, ◌+◌, ◌≤◌, ◌^◌, min, max, OnOk, length, true};
 ghost use Rattle.std.specs.Vec.{vec_capacity};
 ghost use Rattle.esm_model.specs.declared.moment.TheConstants.{MAX_MOMENT};
@@ -16,7 +16,7 @@ pub(crate) fn is_fifo(kind: Kind) -> bool
     }
 }
 
-/// The moment that is noted: not before the last one.
+/// The moment of the next entry: not before the last one, and at most `MAX_MOMENT`.
 pub(crate) fn raised_to(last: u64, moment: u64) -> u64
     requires { last ≤ MAX_MOMENT }
     ensures value { result ≡ min (max moment last) MAX_MOMENT }
@@ -26,7 +26,7 @@ pub(crate) fn raised_to(last: u64, moment: u64) -> u64
     moment.max(last).min(MAX_MOMENT)
 }
 
-/// Room for what a call owes, for the end of the call that runs, and for the end of the input.
+/// Reserves room for what a call owes, for the end of the running call, and for the end of the input.
 pub(crate) fn make_room(history: &mut Vec<Entry>) -> Result<(), OutOfMemory>
     ensures items { history.new.items ≡ history.old.items }
     ensures capacity { vec_capacity history.old ≤ vec_capacity history.new }
@@ -43,7 +43,7 @@ pub(crate) fn past_of(reply: Reply) -> PastReply
     PastReply::of(&reply)
 }
 
-/// Whether a history of so many entries finds place for what a call may owe.
+/// Whether a history of this many entries has room, below its greatest length, for what a call may owe.
 pub(crate) fn may_decide(entries: usize) -> bool
     ensures { result ≡ true → entries + 5 ≤ 2 ^ 40 }
 {

@@ -6,7 +6,7 @@ ghost use Rattle.esm_redrive_core.specs.Kept.{HasShortPayload, payloads_in};
 use esm_model::{Fate, LaneId, OutOfMemory, Places, Text};
 use std::alloc::Global;
 
-/// A deletion that a call owes, with its payload, and with its line where a message is moved.
+/// A deletion that a call owes, with its payload, and with its line if a message is moved.
 #[derive(Drop, Debug)]
 pub(crate) struct Gift {
     pub by: Option<LaneId>,
@@ -17,7 +17,7 @@ pub(crate) struct Gift {
     pub payload: Vec<u8>,
 }
 
-/// The lengths of the payloads, from the last deletion to the first.
+/// The lengths of the payloads in bytes, from the last deletion to the first.
 pub(crate) fn lengths_in(alloc: Global, gifts: &[Gift]) -> Result<Vec<u32>, OutOfMemory>
     requires { All HasShortPayload gifts.now }
     ensures { IfOk result (λ lengths. lengths.items ≡ lengths_of (payloads_in (reverse gifts.now))) }

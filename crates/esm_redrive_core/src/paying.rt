@@ -14,7 +14,7 @@ use esm_queue_core::owed::First;
 use esm_redrive::LimitedQueue;
 use std::alloc::Global;
 
-/// A message comes, in room that is there: whether it was found deleted, and is deleted then.
+/// Adds an arriving message, within reserved room. Returns whether it was found deleted; it is then deleted.
 fn bring_one(
     queue: &mut LimitedQueue,
     alloc: Global,
@@ -42,7 +42,7 @@ fn bring_one(
     gone
 }
 
-/// The messages come, in room that is there; those that were found deleted are deleted: how many.
+/// Adds the arriving messages, within reserved room, and deletes those that were found deleted. Returns their number.
 pub(crate) fn bring(
     queue: &mut LimitedQueue,
     alloc: Global,
@@ -67,7 +67,7 @@ pub(crate) fn bring(
     deleted
 }
 
-/// Deletes the messages at the places: how many were not deleted before. Takes no memory.
+/// Deletes the messages at the places, and returns how many were not deleted before. Takes no memory.
 pub(crate) fn delete_all(queue: &mut LimitedQueue, places: &[u32]) -> u32
     requires within { All (λ i. i < length queue.old.state.messages) places.now }
     requires few { length queue.old.state.messages < 2 ^ 32 }
@@ -84,7 +84,7 @@ pub(crate) fn delete_all(queue: &mut LimitedQueue, places: &[u32]) -> u32
     deleted
 }
 
-/// Memory for the receipt of the call that begins at the moment, if one does. No message changes.
+/// Takes the memory for the receipt of the call that begins at the moment, if one begins. No message changes.
 pub(crate) fn prepare_for(
     queue: &mut LimitedQueue,
     began: &Option<First>,

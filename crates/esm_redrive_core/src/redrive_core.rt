@@ -1,4 +1,4 @@
-// The core of a redrive: its history, the calls, moves and deletions that it decides on, and the entries it owes.
+// The core of a redrive: its history, the calls, moves and deletions that it decides, and the entries that it owes.
 ghost use Rattle.std.specs.Prelude.{◌≡◌, ◌+◌, ◌<◌, ◌≤◌, ◌^◌, ◌∷◌, [], All, length, take, reverse, false, true};
 ghost use Rattle.std.specs.Prelude.{IfOk, IfErr, IfSome, IfNone, OnOk, OnErr};
 ghost use Rattle.esm_model.specs.declared.limits.TheConstants.{MAX_BATCH, MAX_LINE, MAX_PAYLOAD};
@@ -44,20 +44,20 @@ use std::alloc::Global;
 use std::marker::Model;
 use std::mem;
 
-/// The decisions of a redrive, seen as what its history is judged over, the history, and the entries that were decided and
-/// are not yet added. There is one batcher, number 0.
+/// The decisions of a redrive. Contracts see the setting over which its history is judged, the history, and the entries
+/// that were decided and are not yet added. There is one batcher, number 0.
 ///
-/// Moments are in milliseconds since 1970; an entry has the moment that is handed in, or that of the last entry where
-/// that is later, and at most 9999-12-31T23:59:59.999Z. Places count messages in order of arrival.
-/// A history that would come to more than 2^40 entries is refused as want of memory.
+/// Moments are in milliseconds since 1970. An entry has the moment that is passed in, or that of the last entry if it is
+/// later, and at most 9999-12-31T23:59:59.999Z. Places count messages in order of arrival, from 0. A call that could make
+/// the history longer than 2^40 entries returns `OutOfMemory`.
 #[derive(Drop)]
 pub struct RedriveCore {
     config: Config,
     calls: u32,
     visibility_ms: u64,
-    /// What the journal told of deletions.
+    /// What the journal said of deletions.
     said: Says,
-    /// The ids of the lines that stood in the dead-letter file.
+    /// The ids of the lines that were found in the dead-letter file.
     dead: DeadIds,
     criteria: Criteria,
     queue: LimitedQueue,
@@ -88,8 +88,8 @@ impl Model for RedriveCore {
 }
 
 impl RedriveCore {
-    /// A core in which no message came, for so many calls in all, with the deletions that the journal told of and the ids
-    /// of the lines that stand in the dead-letter file.
+    /// Makes a core in which no message has arrived, for `calls` calls in all, with the deletions that the journal
+    /// recorded and the ids of the lines in the dead-letter file.
     pub fn new(
         alloc: Global,
         config: Config,
@@ -129,10 +129,10 @@ impl RedriveCore {
         })
     }
 
-    /// Decides on messages that come: one `Came` where there are any, then those recorded as moved whose line was found,
-    /// and then the deletion of those of the others that fail the filter and were not found deleted. A list with a message
-    /// that was found deleted with another id is refused whole, and the first such message is told. After a refusal the
-    /// core is as before.
+    /// Decides on messages that arrive. It owes one `Came` if there are any; then the record that those whose line was
+    /// found are moved; and then the deletion of those of the others that fail the filter and were not found deleted. If
+    /// a message was found deleted with another id, the whole list is refused, and the refusal reports the first such
+    /// message. After a refusal the core is as before.
     pub fn came(&mut self, alloc: Global, items: Vec<Message>, moment: u64) -> Result<(), Refusal>
         requires settled { self.old.owed ≡ [] }
         requires few { length items.items ≤ MAX_BATCH }
@@ -200,7 +200,7 @@ impl RedriveCore {
         Ok(())
     }
 
-    /// What the batcher does next by the rules of a queue, where no message is due at the moment; a call is owed.
+    /// Decides what the batcher does next by the rules of a queue, if no message is due at the moment; a call is owed.
     fn begin(&mut self, alloc: Global, now: u64) -> Result<Next, OutOfMemory>
         requires settled { self.old.owed ≡ [] }
         requires rests { is_running self.old.past (queue_lane 0) ≡ false }
@@ -226,8 +226,8 @@ impl RedriveCore {
         Ok(next)
     }
 
-    /// What the batcher does next: the first message that is due is moved; where none is, the first rule of a queue that
-    /// holds decides, and a call is owed. The batcher is not running a call. After `OutOfMemory` the core is as before.
+    /// Decides what the batcher does next: the first message that is due is moved; if none is due, the first rule of a
+    /// queue that holds decides, and a call is owed. No call is running. After `OutOfMemory` the core is as before.
     pub fn next(&mut self, alloc: Global, moment: u64) -> Result<Next, OutOfMemory>
         requires settled { self.old.owed ≡ [] }
         requires rests { is_running self.old.past (queue_lane 0) ≡ false }
@@ -249,9 +249,9 @@ impl RedriveCore {
         }
     }
 
-    /// Decides what the end of the job calls for: its `Ended`, and the deletion of the messages that succeeded and are not
-    /// deleted, where there are any; answers their number. After `OutOfMemory` the core is as before, and the job and the
-    /// reply are dropped.
+    /// Decides what the end of the job requires: its `Ended`, and the deletion of the messages that succeeded and are not
+    /// yet deleted, if there are any. Returns their number. After `OutOfMemory` the core is as before, and the job and
+    /// the reply are dropped.
     pub fn done(
         &mut self,
         alloc: Global,
@@ -296,7 +296,7 @@ impl RedriveCore {
         Ok(count)
     }
 
-    /// Gives up what is owed. Takes no memory.
+    /// Discards what is owed. Takes no memory.
     pub fn forget(&mut self)
         ensures { self.new ≡ forgotten self.old }
     {
@@ -380,7 +380,7 @@ impl RedriveCore {
         }
     }
 
-    /// Notes that the job ended, where nothing that this calls for is added any more. Takes no memory.
+    /// Notes that the job ended, but adds nothing that this requires. Takes no memory.
     pub fn note_ended(&mut self, job: Job, reply: Reply, moment: u64)
         requires { IsRunningJob self.old.past job }
         ensures { self.new ≡ noted self.old (Entry.Ended job.lane reply (moment_for self.old.past moment)) }
@@ -406,7 +406,7 @@ impl RedriveCore {
         self.shut = true;
     }
 
-    /// What is true of each core. Does nothing.
+    /// States what is true of every core. Does nothing.
     pub fn keeps(&self)
         ensures { IsConsistent self.now }
     {
@@ -431,7 +431,7 @@ impl RedriveCore {
         }
     }
 
-    /// The lengths in bytes of the owed payloads, in order.
+    /// Returns the lengths in bytes of the owed payloads, in order.
     pub fn owed_lengths(&self, alloc: Global) -> Result<Vec<u32>, OutOfMemory>
         ensures { IfOk result (λ lengths. lengths.items ≡ lengths_of (written_of (queue_payload (all_messages self.now)) self.now.owed)) }
     {
@@ -439,7 +439,7 @@ impl RedriveCore {
         Ok(lengths)
     }
 
-    /// Whether a line is owed; then it is one alone. Takes no memory.
+    /// Whether a line is owed; there is then exactly one. Takes no memory.
     pub fn owes_line(&self) -> bool
         ensures yes { result ≡ true → IsLineWithin (written_of entry_line self.now.owed) MAX_LINE }
         ensures no { result ≡ false → written_of entry_line self.now.owed ≡ [] }
@@ -450,7 +450,7 @@ impl RedriveCore {
         }
     }
 
-    /// The payload of the first owed entry, where it has one. Takes no memory.
+    /// Returns the payload of the first owed entry, if it has one. Takes no memory.
     pub fn first_payload(&self) -> Option<&[u8]>
         requires { 0 < length self.now.owed }
         ensures payload { IfSome result (λ bytes. written_of (queue_payload (all_messages self.entry.now)) (take 1 self.entry.now.owed) ≡ bytes.now ∷ []) }
@@ -466,7 +466,7 @@ impl RedriveCore {
         }
     }
 
-    /// The line of the first owed entry, where it has one. Takes no memory.
+    /// Returns the line of the first owed entry, if it has one. Takes no memory.
     pub fn first_line(&self) -> Option<&[u8]>
         requires { 0 < length self.now.owed }
         ensures line { IfSome result (λ bytes. written_of entry_line (take 1 self.entry.now.owed) ≡ bytes.now ∷ []) }
@@ -485,7 +485,7 @@ impl RedriveCore {
         }
     }
 
-    /// The history, oldest entry first. Takes no memory.
+    /// Returns the history, oldest entry first. Takes no memory.
     pub fn into_history(self) -> Vec<Entry>
         ensures { result.items ≡ reverse self.past }
     {

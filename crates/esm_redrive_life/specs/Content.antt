@@ -1,5 +1,5 @@
--- What the journal's content says after a history of a queue: a redrive's, or an ordinary one. The oldest payload of a content
--- stands first, the newest entry of a history. This product's own.
+-- What the journal's content says after a history of a queue: that of a redrive or of an ordinary run. A content has its
+-- oldest payload first, a history its newest entry. This product's own.
 use Rattle.std.specs.Prelude.{◌≡◌, ◌++◌, ◌<◌, ◌^◌, ℕ, List, length, Option, Some, None, filter_map, is_some, option_map, reverse}
 use Rattle.std.specs.List.{All}
 use Rattle.std.specs.Option.{option_or}
@@ -16,22 +16,22 @@ use Rattle.esm_journal_state.specs.Tells.{Tells}
 use Rattle.esm_queue_model.specs.QueueEntries.{deletion_fate, is_deleted, queue_count}
 use Rattle.esm_queue_model.specs.QueueSetting.{QueueSetting, message_at}
 
--- the setting found the deletions that this content says
+-- the found deletions of the setting are those that this content says
 pub record IsOpenedOver (s : QueueSetting) (content : List (List ℕ)) : Type 0 where
   pub told : SaidLists
   pub tells : Tells told (history (reverse content))
   pub found : s.deletions ≡ told.deletions
 
--- the messages are such as an input gives, and a payload can name their places
+-- the messages are valid, as an input gives them, and a payload can name their places
 pub record HasValidMessages (s : QueueSetting) : Type 0 where
   pub valid : All (IsValidMessage s.config.kind) s.messages
   pub few : length s.messages < 2 ^ 32
 
--- the content that the history leaves of an old one: a payload follows for each deletion
+-- the content that the history leaves of an old one: each deletion adds a payload
 abbrev pub content_after : QueueSetting → List Entry → List (List ℕ) → List (List ℕ)
 content_after s h old = old ++ filter_map (queue_payload s.messages) (reverse h)
 
--- the deletion of the message at the place by the content: its fate, and the id of the message
+-- what the content says of the deletion of the message at the place: its fate, and the message's id
 abbrev pub deletion_in : List (List ℕ) → ℕ → Option KeptFate
 deletion_in content i = deletion_said (history (reverse content)) i
 
@@ -45,8 +45,9 @@ kept_of (Some fate) (Some message) = Some (fate_kept fate message.id)
 abbrev pub given_deletion : QueueSetting → List Entry → ℕ → Option KeptFate
 given_deletion s h i = kept_of (given h 0 i) (message_at s i)
 
--- Deletions are recorded: the content says what it said, and then the deletions of the history with their fates and ids. So by
--- it each place has the fate of its deletion, found or given, and a message that came is deleted exactly where it says so.
+-- Deletions are recorded: the content says what it said, and then the deletions of the history with their fates and ids.
+-- So it gives each place the fate of its deletion, found or given; and a message that arrived is deleted if and only if
+-- the content says so.
 pub record DeletionsAreRecorded (old : List (List ℕ)) (s : QueueSetting) (h : List Entry) : Type 0 where
   pub said : (i : ℕ) → deletion_in (content_after s h old) i ≡ option_or (deletion_in old i) (given_deletion s h i)
   pub fates : (i : ℕ) → option_map (λ (k : KeptFate). k.fate) (deletion_in (content_after s h old) i) ≡ deletion_fate s h i

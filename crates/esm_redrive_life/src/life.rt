@@ -1,5 +1,5 @@
-// What holds over the life of a queue under redrives: over redrives that end or are stopped at any moment, and ordinary runs and
-// compactions between them. What came last stands first.
+// Laws over the life of a queue under redrives: over redrives that end or are stopped at any moment, and ordinary runs
+// and compactions between them. A life has its latest stage first.
 ghost use Rattle.std.specs.Prelude.{◌≡◌, ◌∷◌, ◌++◌, ℕ, Bool, true, List, length, reverse};
 ghost use Rattle.esm_model.specs.declared.entry.Entry.{Entry};
 ghost use Rattle.esm_journal_state.specs.Compact.{SameSaid};
@@ -19,7 +19,7 @@ use esm_redrive_model::laws::{
     adds_once, leaves_moves_lined, lined_after_receives, moved_where_lined, received_at_most,
 };
 
-/// A message's deletion stays: by the content it is never deleted a second time, nor for another reason.
+/// A message's deletion remains: the content never has it deleted a second time, nor for another reason.
 pub fn deletion_stays()
     ensures { (fifo : Bool) (later before : List Stage) → IsLife fifo (later ++ before) → DeletionStays later before }
 {
@@ -34,7 +34,7 @@ pub fn each_has_one_end()
     leaves_moves_lined();
 }
 
-/// The line of each message that the content tells to be moved stands in the dead-letter file.
+/// The dead-letter file has the line of each message that is moved according to the content.
 pub fn moves_are_lined()
     ensures { (fifo : Bool) (life : List Stage) → IsLife fifo life → MovesAreLined fifo life }
 {
@@ -43,7 +43,7 @@ pub fn moves_are_lined()
     lines_go_on();
 }
 
-/// Each id stands in at most one line of the dead-letter file.
+/// Each id is in at most one line of the dead-letter file.
 pub fn each_id_once()
     ensures { (fifo : Bool) (life : List Stage) → IsLife fifo life → EachOnce (lined_ids fifo life) }
 {
@@ -51,7 +51,7 @@ pub fn each_id_once()
     lines_go_on();
 }
 
-/// The dead-letter file stays good for the next redrive.
+/// The dead-letter file remains good for the next redrive.
 pub fn lines_stay_letters()
     ensures { (fifo : Bool) (life : List Stage) → IsLife fifo life → AreLetters fifo (dead_lines life) (length (dead_lines life)) }
 {
@@ -73,7 +73,8 @@ pub fn lined_when_received()
     received_at_most();
 }
 
-/// A message is recorded as moved only after it was received in that redrive as often as it may be, or where its line stood there.
+/// A message is recorded as moved only if it was received in that redrive as often as it may be, or its line was already
+/// there.
 pub fn moved_when_received()
     ensures { (fifo : Bool) (r : Redrive) (before : List Stage) → IsLife fifo (Redriven r ∷ before) → MovedAfterReceives fifo r before }
 {
@@ -82,8 +83,8 @@ pub fn moved_when_received()
     received_at_most();
 }
 
-/// After a redrive that ended while no file failed, a message that came is moved exactly where its line stands in the dead-letter
-/// file and it was not found deleted for another reason.
+/// After a redrive that ended without a failing file, a message that arrived is moved if and only if its line is in the
+/// dead-letter file and it was not found deleted for another reason.
 pub fn moved_by_line()
     ensures { (fifo : Bool) (r : Redrive) (before : List Stage) → IsLife fifo (Redriven r ∷ before) → IsWhole r → MovedWhereLined fifo r before }
 {
@@ -93,7 +94,7 @@ pub fn moved_by_line()
     moved_where_lined();
 }
 
-/// What an ordinary run of the queue leaves of the content goes on from it: further messages succeeded or were filtered.
+/// An ordinary run of the queue continues the content: further messages succeeded or were filtered.
 pub fn ordinary_run_goes_on()
     ensures { (s : QueueSetting) (h : List Entry) (old : List (List ℕ)) → IsOpenedOver s old → HasValidMessages s → LegalQueue s h →
         are_good (reverse old) ≡ true → GoesOn (content_after s h old) old }
@@ -101,7 +102,7 @@ pub fn ordinary_run_goes_on()
     read_again();
 }
 
-/// A list of good payloads that says the same as the content goes on from it, as the one that a compaction writes.
+/// A list of good payloads that says the same as the content continues it, such as the one that a compaction writes.
 pub fn compaction_goes_on()
     ensures { (list old : List (List ℕ)) → SameSaid (history (reverse list)) (history (reverse old)) → are_good (reverse list) ≡ true →
         GoesOn list old }

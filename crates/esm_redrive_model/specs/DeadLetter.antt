@@ -10,7 +10,7 @@ abbrev pub group_member : Option (List ℕ) → List ℕ
 group_member None = []
 group_member (Some group) = codes ",\"messageGroupId\":" ++ quoted group
 
--- without the line feed; the moment is in milliseconds since 1970
+-- the line, without its line feed; `sentTimestamp` is in milliseconds since 1970
 unfoldable pub dead_letter : Message → List ℕ
 dead_letter m =
     codes "{\"messageId\":" ++ quoted m.id

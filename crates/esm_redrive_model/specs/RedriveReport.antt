@@ -9,11 +9,10 @@ use Rattle.esm_queue_model.specs.QueueBatch.{queue_calls}
 use Rattle.esm_queue_model.specs.QueueReport.{queue_text}
 use Rattle.esm_redrive_model.specs.RedriveSetting.{RedriveSetting}
 
--- the calls that ended, oldest first, as the caller logs them: `sends` gives the bytes that it sends for an event
+-- the calls that ended, oldest first, as the caller logs them; `sends` maps an event to the bytes that the caller sends
 abbrev pub redrive_calls : RedriveSetting → (List ℕ → List ℕ) → List Entry → List Called
 redrive_calls s sends h = queue_calls s.queue sends h 0
 
--- the report of a queue's run, and then the number of the messages that are moved, found ones included; without the line
--- feed
+-- the report of a queue's run, followed by the number of moved messages, found ones included; without the line feed
 abbrev pub redrive_text : RedriveSetting → List Entry → List ℕ
 redrive_text s h = queue_text s.queue h ++ codes " moved " ++ decimal (deleted_with s.queue h Exhausted)

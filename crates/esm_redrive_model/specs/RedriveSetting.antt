@@ -1,13 +1,12 @@
--- What a history of a redrive is judged over: a queue's setting, and the limit and the dead-letter file that a redrive has
--- besides. Source: the Amazon SQS Developer Guide, "Using dead-letter queues" (`maxReceiveCount`).
+-- The setting of a history of a redrive: a queue's setting, the limit of receives, and the ids of the dead-letter file.
+-- Source: the Amazon SQS Developer Guide, "Using dead-letter queues" (`maxReceiveCount`).
 use Rattle.std.specs.Prelude.{◌≡◌, ℕ, Bool, List}
 use Rattle.std.specs.List.{list_any}
 use Rattle.std.specs.Str.{bytes_eq}
 use Rattle.esm_model.specs.declared.item.Message.{Message}
 use Rattle.esm_queue_model.specs.QueueSetting.{QueueSetting, over_messages}
 
--- the queue, how often a message may be received, and the message ids of the lines that stood in the dead-letter file at
--- opening
+-- the queue, how often a message may be received, and the message ids in the lines of the dead-letter file at opening
 pub record RedriveSetting : Type 0 where
   pub queue : QueueSetting
   pub max_receives : ℕ
@@ -17,7 +16,7 @@ pub record RedriveSetting : Type 0 where
 abbrev pub stands_among : List (List ℕ) → List ℕ → Bool
 stands_among ids id = list_any (bytes_eq id) ids
 
--- the message's id stands in a line that was found in the dead-letter file
+-- the message's id is in a line that was found in the dead-letter file
 abbrev pub has_dead_id : RedriveSetting → Message → Bool
 has_dead_id s m = stands_among s.dead_ids m.id
 
@@ -27,7 +26,7 @@ redrive_over s messages = record s { queue = over_messages s.queue messages }
 
 -- other lines
 
--- the same ids stand in both, however often and in which order
+-- the two lists have the same ids, regardless of how often and in which order
 abbrev pub HaveSameIds : List (List ℕ) → List (List ℕ) → Type 0
 HaveSameIds ids others = (id : List ℕ) → stands_among ids id ≡ stands_among others id
 

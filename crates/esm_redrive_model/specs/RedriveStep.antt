@@ -1,4 +1,4 @@
--- Which entry may follow a history of a redrive: a row of conditions for each kind of entry. A redrive has one batcher,
+-- Which entry may follow a history of a redrive: the conditions of each kind of entry. A redrive has one batcher, with
 -- number 0. This product's own, after the Amazon SQS Developer Guide, "Using dead-letter queues".
 use Rattle.std.specs.Prelude.{◌≡◌, ℕ, ◌<◌, ◌≤◌, true, false, List, [], ◌∷◌, length, take, Option, Some, None, ⊤}
 use Rattle.esm_model.specs.declared.lane.LaneId.{LaneId}
@@ -18,20 +18,20 @@ use Rattle.esm_redrive_model.specs.RedriveSetting.{RedriveSetting}
 use Rattle.esm_redrive_model.specs.DeadLetter.{dead_letter}
 use Rattle.esm_redrive_model.specs.Due.{due, known}
 
--- each message that waits passes the filter and has no line that was found, and batcher 0 is owed nothing
+-- each message that waits passes the filter and is in no line that was found, and batcher 0 owes nothing
 pub record SettledRedrive (s : RedriveSetting) (h : List Entry) : Type 0 where
   pub recorded : known s h ≡ []
   pub sorted : unsorted_messages s.queue h ≡ []
   pub paid : owed_places s.queue h (queue_lane 0) ≡ []
 
--- the rows
+-- the conditions of each entry
 
--- messages come: the next ones of the list
+-- messages may arrive: the next ones of the list
 pub record MayComeRedrive (s : RedriveSetting) (h : List Entry) (shard first count : ℕ) : Type 0 where
   pub recorded : known s h ≡ []
   pub comes : MayComeQueue s.queue h shard first count
 
--- messages are recorded as moved: all whose line was found, without a second line
+-- messages may be recorded as moved: all whose line was found; they get no second line
 pub record MayRecord (s : RedriveSetting) (h : List Entry) (shard : ℕ) (places : List ℕ) (line : Option (List ℕ)) (state : Option WindowState) (m : ℕ) : Type 0 where
   pub queue : shard ≡ 0
   pub exact : places ≡ known s h
@@ -40,12 +40,12 @@ pub record MayRecord (s : RedriveSetting) (h : List Entry) (shard : ℕ) (places
   pub no_state : state ≡ None
   pub same_moment : m ≡ last_moment h
 
--- messages are filtered: all that wait and do not pass
+-- messages may be filtered: all that wait and do not pass the filter
 pub record MayFilterRedrive (s : RedriveSetting) (h : List Entry) (shard : ℕ) (places : List ℕ) (line : Option (List ℕ)) (state : Option WindowState) (m : ℕ) : Type 0 where
   pub recorded : known s h ≡ []
   pub filters : MayFilterQueue s.queue h shard places line state m
 
--- the first message that is due at the moment is moved, with its line
+-- the first message that is due at the moment may be moved, with its line
 pub record MayMove (s : RedriveSetting) (h : List Entry) (lane : LaneId) (shard : ℕ) (places : List ℕ) (line : Option (List ℕ)) (state : Option WindowState) (m : ℕ) : Type 0 where
   pub settled : SettledRedrive s h
   pub batcher : lane ≡ queue_lane 0
@@ -59,7 +59,7 @@ pub record MayMove (s : RedriveSetting) (h : List Entry) (lane : LaneId) (shard 
   pub line_is : line ≡ Some (dead_letter message)
   pub no_state : state ≡ None
 
--- a call begins, of the batch; no message is due
+-- a call of the batch may begin, if no message is due
 pub record MayBeginRedrive (s : RedriveSetting) (h : List Entry) (lane : LaneId) (places : List ℕ) (m : ℕ) : Type 0 where
   pub settled : SettledRedrive s h
   pub batcher : lane ≡ queue_lane 0
@@ -70,12 +70,12 @@ pub record MayBeginRedrive (s : RedriveSetting) (h : List Entry) (lane : LaneId)
   pub some : 1 ≤ length places
   pub ready : is_queue_ready s.queue h m ≡ true
 
--- the call ends
+-- the call may end
 pub record MayEndRedrive (h : List Entry) (lane : LaneId) : Type 0 where
   pub batcher : lane ≡ queue_lane 0
   pub runs : is_running h (queue_lane 0) ≡ true
 
--- messages that succeeded are deleted: what batcher 0 is owed
+-- messages that succeeded may be deleted: exactly those whose deletion batcher 0 owes
 pub record MayDeleteRedrive (s : RedriveSetting) (h : List Entry) (lane : LaneId) (shard : ℕ) (places : List ℕ) (line : Option (List ℕ)) (state : Option WindowState) (m : ℕ) : Type 0 where
   pub batcher : lane ≡ queue_lane 0
   pub deletes : MayDelete s.queue h (queue_lane 0) shard places line state m
@@ -87,7 +87,7 @@ MayGiveRedrive s h (Some lane) shard places Exhausted line state m = MayMove s h
 MayGiveRedrive s h (Some lane) shard places Succeeded line state m = MayDeleteRedrive s h lane shard places line state m
 MayGiveRedrive s h _ shard places _ line state m = ⊥
 
--- the row of each entry; of a queue there are no tries, windows or replays
+-- the conditions of each entry; a queue has no tries, windows and replays
 abbrev pub RedriveMayFollow : RedriveSetting → List Entry → Entry → Type 0
 RedriveMayFollow s h (Came shard first count moment) = MayComeRedrive s h shard first count
 RedriveMayFollow s h (Began lane places None moment) = MayBeginRedrive s h lane places moment
@@ -99,7 +99,7 @@ RedriveMayFollow s h (Closed lane window moment) = ⊥
 RedriveMayFollow s h (Replayed shard places moment) = ⊥
 RedriveMayFollow s h (Shut moment) = SettledRedrive s h × (is_shut h ≡ false)
 
--- a history is legal where it is empty, or a legal one followed by an entry that may follow it
+-- a history is legal if it is empty, or if it is a legal one and an entry that may follow it
 abbrev pub LegalRedrive : RedriveSetting → List Entry → Type 0
 LegalRedrive s [] = ⊤
 LegalRedrive s (e ∷ h) = LegalRedrive s h × (IsLater h (moment_of e) × RedriveMayFollow s h e)

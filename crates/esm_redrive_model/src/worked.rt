@@ -2,8 +2,8 @@
 ghost use Rattle.esm_redrive_model.specs.WorkedRedrives.{RedriveOne, RedriveSpent, NearRedriveOne, RedriveFound, NearRedriveFound};
 ghost use Rattle.esm_redrive_model.specs.WorkedRedrives.{RedriveFifo, NearRedriveFifo};
 
-/// A message that always fails is moved when it shows after its last receive; one whose line was found is recorded
-/// without a second line; and a FIFO queue's next message is called once the first of its group was moved.
+/// A message that always fails is moved once it is visible after its last receive. One whose line was found is recorded as
+/// moved without a second line. A FIFO queue's next message is called once the first of its group was moved.
 pub fn redrives()
     ensures one { RedriveOne }
     ensures spent { RedriveSpent }

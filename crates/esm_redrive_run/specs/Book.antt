@@ -1,4 +1,4 @@
--- A redrive's book as one caller calls for it, and how it goes on. This product's own.
+-- A redrive's book as its one caller uses it, and how it changes over time. This product's own.
 use Rattle.std.specs.Prelude.{◌≡◌, ◌≤◌, ◌++◌, ℕ, zero, suc, Bool, true, false, List, [], ◌∷◌, length, map, None, ⊤}
 use Rattle.esm_journal.specs.State.{JournalState}
 use Rattle.esm_model.specs.declared.book.Change.{Change}
@@ -25,37 +25,37 @@ use Rattle.esm_redrive_book.specs.Books.{BookState}
 use Rattle.esm_redrive_book.specs.Moments.{IsTimedView}
 use Rattle.esm_runner.specs.Given.{AreGiven}
 
--- over a dead-letter file
+-- a redrive's book over a dead-letter file
 abbrev pub Book : Type 0 → Type 0
 Book D = BookState D (JournalState D)
 
--- its history is legal, and its messages are those that came
+-- its history is legal, and its messages are those that arrived
 pub record IsLegalBook {D : Type 0} (b : Book D) : Type 0 where
   pub legal : LegalRedrive b.core.setting b.core.past
   pub came : queue_count b.core.past ≡ length b.core.setting.queue.messages
 
--- from the first the book came to the other, and these calls of batcher 0 ended meanwhile
+-- the book changed from `first` to `now`, and these calls of batcher 0 ended in between
 pub record HasGoneOn {D : Type 0} (gave : ℕ → Bool) (sends : List ℕ → List ℕ) (first now : Book D) (calls : List Called) : Type 0 where
-  -- what the book was opened with stays
+  -- what the book was opened with is unchanged
   pub opened : now.core.setting ≡ redrive_over first.core.setting now.core.setting.queue.messages
   pub found : now.found ≡ first.found
   pub found_dest : now.found_dest ≡ first.found_dest
   pub sound : IsLegalBook first → IsLegalBook now
-  -- each moment is one that the clock gave, or that of the entry before it where that is later
+  -- each moment is one that the clock gave, or that of the entry before it if it is later
   pub moments : AreGiven gave first.core.past → AreGiven gave now.core.past
-  -- the clock gave that of each entry that is owed too: of the one in hand, and of the one whose line was being delivered
+  -- the clock also gave that of each owed entry: of the one in hand, and of the one whose line was being delivered
   pub timed : IsTimedView gave first.core → IsTimedView gave now.core
   pub called : redrive_calls now.core.setting sends now.core.past ≡ redrive_calls first.core.setting sends first.core.past ++ calls
-  -- calls begin after the end of the input
+  -- calls begin only after the end of the input
   pub later : CallsFollowShut first.core.past → CallsFollowShut now.core.past
 
--- as it was opened
+-- the book is as it was opened
 pub record IsFresh {D : Type 0} (b : Book D) : Type 0 where
   pub past : b.core.past ≡ []
   pub messages : b.core.setting.queue.messages ≡ []
   pub up : b.trouble ≡ None
 
--- messages came, and no call began, and the input has not ended
+-- messages arrived, no call began, and the input has not ended
 abbrev pub AreArrivals : List Entry → Type 0
 AreArrivals [] = ⊤
 AreArrivals (Came shard first count moment ∷ h) = AreArrivals h
@@ -68,12 +68,12 @@ IsGoing b = AreArrivals b.core.past
 abbrev pub IsShut : {D : Type 0} → Book D → Type 0
 IsShut b = is_shut b.core.past ≡ true
 
--- no call runs; where the book is not down the input has ended
+-- no call is running; if the book is not down, the input has ended
 pub record DoesRest {D : Type 0} (b : Book D) : Type 0 where
   pub idle : is_running b.core.past (queue_lane 0) ≡ false
   pub shut : b.trouble ≡ None → is_shut b.core.past ≡ true
 
--- the job is of the call that runs
+-- the job is that of the running call
 pub record RunsJob {D : Type 0} (b : Book D) (job : Job) : Type 0 where
   pub lane : job.lane ≡ queue_lane 0
   pub runs : is_running b.core.past (queue_lane 0) ≡ true
@@ -81,30 +81,30 @@ pub record RunsJob {D : Type 0} (b : Book D) (job : Job) : Type 0 where
   pub event : job.event ≡ last_queue_event b.core.setting.queue b.core.past (queue_lane 0)
   pub shut : b.trouble ≡ None → is_shut b.core.past ≡ true
 
--- the input has ended, and every message that came is deleted
+-- the input has ended, and every message that arrived is deleted
 pub record HasFinished {D : Type 0} (b : Book D) : Type 0 where
   pub shut : is_shut b.core.past ≡ true
   pub deleted : AllDeleted b.core.setting.queue b.core.past
 
--- no message is due at a moment that is not before that of the last entry
+-- no message is due at some moment that is not before that of the last entry
 abbrev pub IsNoneDue : RedriveSetting → List Entry → Type 0
 IsNoneDue s h = (m : ℕ) × (last_moment h ≤ m) × (due s h m ≡ [])
 
--- all calls allowed began, and a message is not deleted, though none is due
+-- all calls allowed were made, and a message is not deleted, though none is due
 pub record IsSpent {D : Type 0} (b : Book D) : Type 0 where
   pub calls : calls_begun b.core.past ≡ b.core.setting.queue.calls
   pub waits : HasWaiting b.core.setting.queue b.core.past
   pub none_due : IsNoneDue b.core.setting b.core.past
 
--- the lines of the input of a queue of the kind
+-- the lines of the input of a queue of this kind
 abbrev pub lines_in : {D : Type 0} → Book D → LineKind
 lines_in b = kinds.Queue (is_fifo b.core.setting.queue.config.kind)
 
--- the items of the shard that came, in their order; a queue is shard 0
+-- the items of the shard that arrived, in their order; a queue is shard 0
 abbrev pub items_in : {D : Type 0} → Book D → ℕ → List Item
 items_in b zero = map items.Queue b.core.setting.queue.messages
 items_in b (suc n) = []
 
--- of the messages of a list that is to come, the first that was found deleted with another id differs so
+-- the first of the list's messages that was found deleted with another id differs so
 abbrev pub Differs : {D : Type 0} → Book D → List Item → Change → Type 0
 Differs b list change = IsFirstChange b.core (messages_in_items list) change

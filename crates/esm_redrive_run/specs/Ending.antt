@@ -1,4 +1,4 @@
--- How the end of a run is told, from how its caller came to its end. Only this crate's proofs cite this.
+-- How the end of a run is reported, from how its caller's loop ended. Only this crate's proofs cite this.
 use Rattle.std.specs.Prelude.{◌≡◌, Result, Ok, Err, Option, Some, IsSome}
 use Rattle.esm_model.specs.declared.book.Trouble.{Trouble}
 use Rattle.esm_model.specs.declared.book.Trouble.TheVariants as trouble
@@ -9,13 +9,13 @@ use Rattle.esm_serial.specs.declared.running.RunEnd.TheVariants as ran
 use Rattle.esm_redrive_run.specs.declared.run.RedriveEnd.{RedriveEnd}
 use Rattle.esm_redrive_run.specs.declared.run.RedriveEnd.TheVariants as end
 
--- the caller came to an end for which there is a reason
+-- the loop ended for this reason, which has a cause
 abbrev pub HasReason : Option Trouble → Option InputEnd → RunEnd → Type 0
 HasReason why reading ran.Finished = IsSome reading
 HasReason why reading ran.Spent = Unit {0}
 HasReason why reading ran.Down = IsSome why
 
--- the end of a run by which the caller came to this, with this trouble of the book, and the reading to that
+-- the end of a run in which the loop ended with `r`, the book has this trouble, and the reading ended so
 abbrev pub IsEndOf : RunEnd → Option Trouble → Option InputEnd → RedriveEnd → Type 0
 IsEndOf r why reading (end.Finished last) = (r ≡ ran.Finished) × (reading ≡ Some last)
 IsEndOf r why reading end.CallsSpent = r ≡ ran.Spent

@@ -1,4 +1,4 @@
--- The laws by which the headline of a redrive holds. Only this crate's proofs cite this.
+-- The laws from which the headline of a redrive follows. Only this crate's proofs cite this.
 use Rattle.std.specs.Prelude.{◌≡◌, ℕ, Bool, true, List, [], ◌∷◌, length, Option, Some}
 use Rattle.std.specs.List.{All}
 use Rattle.esm_io.specs.Meanings.{DiskMeaning, DestMeaning}
@@ -48,7 +48,8 @@ pub record AreLaws : Type 0 where
   pub tried : (gave : ℕ → Bool) (v : RedriveView) (why : Option Trouble) → IsTimedView gave v → AreTimed gave (in_delivery why v.owed)
   pub front : (gave : ℕ → Bool) (s : RedriveSetting) (h : List Entry) (e : Entry) (follows : FollowsFront s h e) → IsTimed gave e → IsGivenBehind gave follows.before (moment_of e)
 
--- what a call at a moment adds and owes has that moment, so where the clock gave it, it gave those of all that the book has
+-- what a call at a moment adds and owes has that moment; so if the clock gave it, it gave those of all entries that the
+-- book has
 pub record AreMomentLaws {D : Type 0} (m : DiskMeaning D) (n : DestMeaning (JournalState D)) : Type 0 where
   pub came : (v : RedriveView) (list : List Message) (t : ℕ) → HaveMoment (moment_for v.past t) (came_entries v list t)
   pub next : (s : RedriveSetting) (h : List Entry) (t : ℕ) → HaveMoment t (redrive_next_entries s h t)

@@ -1,4 +1,4 @@
--- A run of a redrive that is to begin, and what it leaves. Only this crate's proofs cite this.
+-- A run of a redrive that is about to begin, and what it leaves. Only this crate's proofs cite this.
 use Rattle.std.specs.Prelude.{◌≡◌, ◌≤◌, ℕ, true, false, List, [], length, Result, Ok, Err, Some, None}
 use Rattle.esm_io.specs.Images.{Only}
 use Rattle.esm_io.specs.Meanings.{DiskMeaning, DestMeaning}
@@ -30,12 +30,12 @@ use Rattle.esm_redrive_run.specs.declared.run.RedriveEnd.TheVariants as end
 
 -- what begins
 
--- nothing was read of the input
+-- nothing was read from the input
 abbrev pub new_input : {S : Type 0} → Config → S → InputState S
 new_input config source = record { kind = line_kind config; factor = config.factor; start = config.start; found = source; source = source; bytes = []; whole = false; end = None; failed = false }
 
--- The book and the input of a run with these words are new, over this journal, this dead-letter file and this source. The ids
--- that the book found are those of the lines of the file, each of which is one of the queue's kind.
+-- The book and the input of a run with these words are new, over this journal, this dead-letter file and this source. The
+-- ids that the book found are those of the lines of the file, each of which is one of the queue's kind.
 pub record IsBegun {S D : Type 0} (w : Words) (said : SaidLists) (pair : PairState D) (dest : JournalState D) (source : S) (b : Book D) (i : InputState S) (name : List ℕ) : Type 0 where
   pub letters : AreLetters (is_fifo w.config.kind) dest.payloads (length dest.payloads)
   pub ids : List (List ℕ)
@@ -50,13 +50,13 @@ pub record IsBegun {S D : Type 0} (w : Words) (said : SaidLists) (pair : PairSta
   pub unread : handed i ≡ []
   pub name_is : name ≡ w.config.function
 
--- why no run begins: a line of the dead-letter file is the first bad one, or for want of memory
+-- why no run begins: the first bad line of the dead-letter file, or memory ran out
 abbrev pub IsRefusal : Words → (lines : List (List ℕ)) → Result RedriveEnd OutOfMemory → Type 0
 IsRefusal w lines (Ok (end.BadLine index)) = IsFirstBad (is_fifo w.config.kind) lines index
 IsRefusal w lines (Ok _) = ⊥
 IsRefusal w lines (Err none) = Unit {0}
 
--- of a book that was not opened: no payload of the journal is bad
+-- the error of a book that was not opened: no payload of the journal is bad
 abbrev pub IsNoBadPayload : RedriveOpen → Type 0
 IsNoBadPayload (open_error.BadPayload index) = ⊥
 IsNoBadPayload _ = Unit {0}
@@ -66,7 +66,7 @@ why_of (open_error.BadPayload index) = Err (record {})
 why_of (open_error.BadLine index) = Ok (end.BadLine index)
 why_of open_error.OutOfMemory = Err (record {})
 
--- the words by which a book was opened, and the files
+-- the words with which a book was opened, and the files
 abbrev pub words_of : {D : Type 0} → Book D → Words
 words_of b = record { config = b.core.setting.queue.config; calls = b.core.setting.queue.calls; visibility = b.core.setting.queue.visibility; max_receives = b.core.setting.max_receives }
 
@@ -88,7 +88,7 @@ dead_file m = record {
   reads_as = λ left lines. OpensTo (header_of 1) lines left;
 }
 
--- what a crash leaves of the disks since they were handed in
+-- what a crash leaves of the disks since they were passed in
 abbrev pub LeavesSince : {D : Type 0} → DiskMeaning D → FilesState D → Book D → Type 0
 LeavesSince m f b =
     m.honest f.journal ≡ true → m.honest f.spare ≡ true → Only (m.content f.journal) (m.image f.journal) → Only (m.content f.spare) (m.image f.spare) → (one other : List ℕ) →
@@ -108,6 +108,6 @@ pub record IsLeft {D : Type 0} (m : DiskMeaning D) (f : FilesState D) (b : Book 
   pub pair_kept : PairKeepsWhileUp m b.pair
   pub pair_stopped : PairKeepsWhileDown m b.pair
   pub dest_kept : KeepsWhileUp m b.dest
-  -- since now there are the images now, and no others
+  -- the images since now are those of now, and no others
   pub only_now : (d : D) (bytes : List ℕ) → m.honest d ≡ true → m.since d (m.moment d) bytes → m.image d bytes
   pub counts_now : (d : D) (t : ℕ) (bytes : List ℕ) → m.honest d ≡ true → t ≤ m.moment d → m.image d bytes → m.since d t bytes

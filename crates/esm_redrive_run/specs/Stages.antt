@@ -1,4 +1,4 @@
--- A redrive as one of the life of its queue. This product's own.
+-- A redrive as a stage of the life of its queue. This product's own.
 use Rattle.std.specs.Prelude.{◌≡◌, ◌⊎◌, ◌++◌, ◌∷◌, ℕ, Bool, IsTrue, List, [], Option}
 use Rattle.esm_io.specs.Meanings.{DiskMeaning}
 use Rattle.esm_model.specs.declared.book.Trouble.{Trouble}
@@ -13,13 +13,13 @@ use Rattle.esm_redrive_model.specs.RedriveSetting.{RedriveSetting}
 use Rattle.esm_runner.specs.Files.{FilesState, IsOpenedFiles}
 use Rattle.esm_redrive_run.specs.Headline.{Disks, Headline, IsSettingOf, Words}
 
--- a file kept a front of the history, or a front behind which calls and the input ended alone and then the further entry, where
--- there is one
+-- a file kept a prefix of the history; or the further entry, if there is one, behind a prefix after which only calls and
+-- the input ended
 abbrev pub IsLeftOf : RedriveSetting → List Entry → (further kept : List Entry) → Type 0
 IsLeftOf s h further kept = ((lost : List Entry) × (h ≡ lost ++ kept)) ⊎ ((e : Entry) × (further ≡ e ∷ []) × ((front : FollowsFront s h e) × (kept ≡ e ∷ front.before)))
 
--- what its journal kept, in whose image the entry in hand may stand, and of which entries the dead-letter file has the lines; the
--- line of a message that is moved stands where its deletion does
+-- what its journal kept, whose image may have the entry in hand, and of which entries the dead-letter file has the lines;
+-- if the journal has the deletion of a moved message, the file has its line
 pub record IsLeft (s : RedriveSetting) (h : List Entry) (hand tried recorded lined : List Entry) : Type 0 where
   pub recorded_is : IsLeftOf s h hand recorded
   pub lined_is : IsLeftOf s h hand lined ⊎ IsLeftOf s h tried lined

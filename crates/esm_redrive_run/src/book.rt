@@ -1,4 +1,4 @@
-// A redrive's book as one that one caller calls for, once its input was read.
+// A redrive's book as its one caller uses it.
 ghost use Rattle.std.specs.Prelude.{◌≡◌, All, IfOk};
 ghost use Rattle.esm_model.specs.declared.item.Item.{Item};
 ghost use Rattle.esm_queue_book.specs.Coming.{IsMessage, messages_in_items};
@@ -20,7 +20,7 @@ pub(crate) struct SerialRedrive<D: Disk> {
     pub(crate) redrive: Redrive<D, FileDest<D>>,
 }
 
-/// What is true of the book, whoever made its calls. Does nothing.
+/// States what is true of the book, whoever made its calls. Does nothing.
 fn know<D: Disk>(book: &SerialRedrive<D>)
     ensures sound { IsSound book.now.redrive }
     ensures consistent { IsConsistent book.now.redrive.core }

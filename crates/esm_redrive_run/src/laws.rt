@@ -1,4 +1,4 @@
-// The laws by which the headline of a redrive holds, as one, and those of the moments of its book.
+// The laws from which the headline of a redrive follows, in one place, and those of the moments of its book.
 ghost use Rattle.esm_io.specs.Meanings.{disk as meaning};
 ghost use Rattle.esm_redrive_run.specs.Laws.{AreLaws, AreMomentLaws};
 ghost use Rattle.esm_redrive_run.specs.Runs.{dead_file};
@@ -15,7 +15,7 @@ use esm_redrive_model::laws::{
     moved_once, moved_where_lined, received_at_most, redrive_over_more, same_over_same_ids,
 };
 
-/// What holds of every history of a redrive. Does nothing.
+/// States what holds of every history of a redrive. Does nothing.
 pub(crate) fn laws_hold()
     ensures { AreLaws }
 {
@@ -36,7 +36,7 @@ pub(crate) fn laws_hold()
     hand_is_timed();
 }
 
-/// What holds of the moments of a book over a dead-letter file, while calls are made of it. Does nothing.
+/// States what holds of the moments of a book over a dead-letter file, while calls are made of it. Does nothing.
 pub(crate) fn moments_hold<D: Disk>()
     ensures { AreMomentLaws (meaning D.Disk) (dead_file (meaning D.Disk)) }
 {

@@ -1,6 +1,6 @@
-//! One run of a redrive over its devices: the lines of the dead-letter file are judged, the book is opened over the files, the
-//! input is read, the caller is asked, and what a run leaves is told in the words of the headline.
-//! It composes the book, the input and the serial run by their public contracts.
+//! One run of a redrive over its devices: the lines of the dead-letter file are judged, the book is opened over the
+//! files, the input is read, the caller is called, and the contracts say what the run leaves, in the terms of the
+//! headline. It composes the book, the input and the serial run by their public contracts.
 #![tactic(auto)]
 
 mod book;

@@ -32,7 +32,7 @@ use std::snapshot::Snapshot;
 use std::sync::Wait;
 use std::thread::Threads;
 
-/// The disks as they were handed in, for the contracts alone.
+/// The disks as they were passed in, for the contracts alone.
 #[derive(Drop)]
 struct Before<D> {
     journal: Snapshot<D>,
@@ -40,14 +40,14 @@ struct Before<D> {
     failures: Snapshot<D>,
 }
 
-/// A run that is to begin: its book, its input and the function's name.
+/// A run that is about to begin: its book, its input and the function's name.
 struct Opened<S: Source, D: Disk> {
     book: SerialRedrive<D>,
     input: Input<S>,
     name: Text,
 }
 
-/// Why a run did not begin, and what it took.
+/// Why a run did not begin, and what it was given.
 struct NotBegun<S, D: Disk> {
     why: Result<RedriveEnd, OutOfMemory>,
     pair: Pair<D>,
@@ -55,7 +55,7 @@ struct NotBegun<S, D: Disk> {
     input: S,
 }
 
-/// The lines of a queue of the kind.
+/// The lines of the input of a queue of this kind.
 fn line_kind(kind: Kind) -> LineKind
     ensures { result ≡ LineKind.Queue (is_fifo kind) }
 {
@@ -65,7 +65,7 @@ fn line_kind(kind: Kind) -> LineKind
     }
 }
 
-/// Why a run did not begin, where its book was not opened.
+/// Why a run did not begin whose book was not opened.
 fn not_begun<S, D: Disk>(refused: RedriveRefused<D>, input: S) -> NotBegun<S, D>
     requires good { IsNoBadPayload refused.why }
     ensures why { result.why ≡ why_of refused.why }
@@ -85,7 +85,7 @@ fn not_begun<S, D: Disk>(refused: RedriveRefused<D>, input: S) -> NotBegun<S, D>
     }
 }
 
-/// Opens the book over the journal and the dead-letter file, and the input. Nothing is read or written.
+/// Opens the book over the journal and the dead-letter file, and opens the input. Nothing is read or written.
 #[tactic(auto, using(crate::proofs::Begins::no_bad, crate::proofs::Begins::refusal_so))]
 fn begin<S: Source, D: Disk>(
     alloc: Global,
@@ -203,10 +203,11 @@ fn run_opened<R: Threads + Wait + Sync, S: Source, D: Disk, C: Clock, F: Caller>
     )
 }
 
-/// Runs a redrive: it reads the input whole, and then one batcher calls, one call after the other. A message that was received
-/// `max_receives` times, 1 to 1,000, without being deleted is moved: its line is written to the dead-letter file, and then its
-/// deletion to the journal. The dead-letter file is the failure file of `files`. `calls` is how many calls may be made in all,
-/// `visibility_ms` the visibility timeout in milliseconds.
+/// Runs a redrive. It reads the input to its end; then one batcher calls, one call after the other. A message that was
+/// received `max_receives` times, 1 to 1,000, without being deleted is moved: its line is written to the dead-letter
+/// file, and then its deletion to the journal. The dead-letter file is the failure file of `files`. `calls` is how many
+/// calls may be made in all, `visibility_ms` the visibility timeout in milliseconds. An `end` of `OutOfMemory` means that
+/// memory ran out.
 pub fn run_redrive<R: Threads + Wait + Sync, S: Source, D: Disk, C: Clock, F: Caller>(
     rt: &R,
     alloc: Global,

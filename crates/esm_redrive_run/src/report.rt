@@ -1,4 +1,4 @@
-// The line of a redrive's report that tells of its messages.
+// Writing the line of a redrive's report on its messages.
 ghost use Rattle.std.specs.Prelude.{◌≡◌, ◌+◌, ◌++◌, ℕ, ◌==◌, ◌&&◌, List, ◌∷◌, Some, None, get_or, length, filter, is_some, reverse, IfOk, OnOk, if◌then◌else◌};
 ghost use Rattle.std.specs.Option.{option_or};
 ghost use Rattle.esm_model.specs.declared.entry.Entry.{Entry};
@@ -18,10 +18,10 @@ use esm_model::{Entry, Fate, OutOfMemory, Places};
 use esm_report::fates::{Fates, is_fate};
 use std::alloc::Global;
 
-/// The line of the report of a redrive whose history is `trace`, the oldest entry first, where the journal said `said` at its
-/// opening: how many messages came, how many are deleted, and how many of these succeeded, were filtered and were moved, found
-/// ones included; without the line feed. Linear in the entries, the places that they name and the messages that came, but for
-/// the logarithm of the number of found deletions.
+/// Returns the line of the report of a redrive whose history is `trace`, oldest entry first, and whose journal said
+/// `said` at opening: how many messages arrived, how many are deleted, and how many of these succeeded, were filtered and
+/// were moved, including found ones; without the line feed. The time is linear in the entries, the places that they name
+/// and the messages, times the logarithm of the number of found deletions.
 pub fn messages_text(alloc: Global, said: &Says, trace: &[Entry]) -> Result<Vec<u8>, OutOfMemory>
     ensures { IfOk result (λ text. (s : RedriveSetting) → s.queue.deletions ≡ said.now.deletions → LegalRedrive s (reverse trace.now)
         → text.items ≡ redrive_text s (reverse trace.now)) }
@@ -37,7 +37,7 @@ pub fn messages_text(alloc: Global, said: &Says, trace: &[Entry]) -> Result<Vec<
     Ok(out)
 }
 
-/// The fates of a queue's messages: the found deletion's, else that which the history gave.
+/// The fates of a queue's messages: that of a found deletion, or else the one that the history gave.
 #[derive(Drop)]
 struct Deletions<'a> {
     found: &'a Says,
@@ -90,7 +90,7 @@ fn found_at(found: &Says, place: u32) -> Option<Fate>
     }
 }
 
-/// The number of messages that came; more of them than 32 bits count, as places are, do not fit into memory.
+/// The number of messages that arrived. More of them than 32 bits count do not fit into memory.
 fn messages_in(trace: &[Entry]) -> Result<u32, OutOfMemory>
     ensures { IfOk result (λ count. count ≡ queue_count (reverse trace.now)) }
 {
@@ -113,7 +113,7 @@ fn messages_with(entry: &Entry) -> u32
     }
 }
 
-/// The fates that the history gave, the oldest entry first, by the place of the message.
+/// The fates that the history gave, by the place of the message; the history is oldest entry first.
 fn fates_of(alloc: Global, trace: &[Entry]) -> Result<Fates, OutOfMemory>
     ensures { IfOk result (λ fates. AreGiven fates (reverse trace.now)) }
 {
@@ -139,7 +139,7 @@ fn add(fates: &mut Fates, entry: &Entry) -> Result<(), OutOfMemory>
     }
 }
 
-/// Gives the places of a queue, whose shard is 0, this fate, but where they have one.
+/// Gives this fate to those of the places that have none, if the shard is 0, which a queue is.
 fn give(fates: &mut Fates, shard: u64, places: &Places, fate: Fate) -> Result<(), OutOfMemory>
     ensures { OnOk result ((i : ℕ) → get_or fates.new i None
         ≡ option_or (get_or fates.old i None) (if (shard == 0) && holds places.now i then Some fate else None)) }

@@ -1,4 +1,4 @@
-// What a run of a redrive leaves, how its end is told, and its devices taken apart.
+// What a run of a redrive leaves, how its end is reported, and how its devices are taken apart.
 ghost use Rattle.std.specs.Prelude.{◌≡◌, IfOk, OnErr, IsErr};
 ghost use Rattle.esm_io.specs.Meanings.{disk as meaning};
 ghost use Rattle.esm_journal.specs.Pair.{PairKeepsWhileUp, first_disk, second_disk};
@@ -17,7 +17,7 @@ use std::snapshot::Snapshot;
 /// How the run of a redrive ended.
 #[derive(Drop, Debug)]
 pub enum RedriveEnd {
-    /// Every message that came is deleted, the moved ones among them; the reading of the input ended for this.
+    /// Every message that arrived is deleted, including the moved ones; the reading of the input ended for this reason.
     Finished(InputEnd),
     /// All calls allowed were made, and a message is not deleted.
     CallsSpent,
@@ -25,16 +25,16 @@ pub enum RedriveEnd {
     DiskFault,
     /// The dead-letter file failed.
     DestFault,
-    /// A message that was found deleted came with another id, the first of the input that did.
+    /// A message that was found deleted arrived with another id; it is the first such one of the input.
     Changed(Change),
-    /// The payload of the dead-letter file with this index, counted from 0, is the first that is no line of the queue's kind.
-    /// Nothing ran.
+    /// The payload of the dead-letter file with this index, counted from 0, is the first that is not a line of the
+    /// queue's kind. Nothing ran.
     BadLine(u32),
 }
 
-/// A run of a redrive: how it ended, its history with the oldest entry first, what its journal said before, how the reading of
-/// its input ended, for the contracts alone, and the devices as it left them: the input, the journal with its spare, and the
-/// dead-letter file. Where the reading came to no end, the input was left before.
+/// What a run of a redrive leaves: how it ended, its history with the oldest entry first, and what its journal said
+/// before; how the reading of its input ended, for the contracts alone, with `None` if the run ended before it did; and
+/// the devices as the run left them: the input, the journal with its spare, and the dead-letter file.
 #[derive(Drop)]
 pub struct RedriveRun<S, D> {
     pub end: Result<RedriveEnd, OutOfMemory>,
@@ -47,8 +47,8 @@ pub struct RedriveRun<S, D> {
     pub dead: D,
 }
 
-/// How a run ended by which the caller came to this, with this trouble of the book, and the reading to that. Takes no memory:
-/// want of it ended the run only where it ended the caller.
+/// How a run ended, from how its caller's loop ended, the book's trouble, and how the reading ended. Takes no memory: the
+/// result is `OutOfMemory` only if the loop ended with it.
 pub(crate) fn end_of(
     ran: Result<RunEnd, OutOfMemory>,
     trouble: Option<Trouble>,

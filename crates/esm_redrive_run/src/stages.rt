@@ -1,4 +1,4 @@
-// That a run of a redrive is one of the life of its queue, as the contract of a function that does nothing.
+// The law that a run of a redrive is a stage of the life of its queue, as the contract of a function that does nothing.
 ghost use Rattle.std.specs.Prelude.{ℕ, Bool, List, Option};
 ghost use Rattle.esm_io.specs.Meanings.{disk as meaning};
 ghost use Rattle.esm_model.specs.declared.book.Trouble.{Trouble};
@@ -11,7 +11,8 @@ ghost use Rattle.esm_redrive_run.specs.Stages.{IsStage};
 
 use esm_io::Disk;
 
-/// The laws over lists of redrives speak of each run of which the headline holds: what they ask of one are its clauses.
+/// The laws over lists of redrives apply to each run of which the headline holds: what they require of a run are its
+/// clauses.
 pub fn run_is_stage<D: Disk>()
     ensures { (gave : ℕ → Bool) (w : Words) (f : FilesState D) (messages : List Message) (s : RedriveSetting) (h : List Entry) (trouble : Option Trouble)
         (hand tried : List Entry) (new : Disks D) (recorded lined : List Entry) →

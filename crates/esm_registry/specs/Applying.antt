@@ -1,5 +1,5 @@
--- How a command is carried out: what it comes to before anything is changed, and then one payload and the list. Only
--- this crate's proofs cite this.
+-- How a command is carried out: it is planned before anything is changed, and then one payload is written and the list
+-- changed. Only this crate's proofs cite this.
 use Rattle.std.specs.Prelude.{◌≡◌, ◌+◌, ◌<◌, ◌≤◌, ◌^◌, ◌++◌, ℕ, true, false, List, [], ◌∷◌, length, Option, Some, None, Result, IfOk, OnOk, OnErr, IsErrOf}
 use Rattle.std.specs.Option.{option_to_list}
 use Rattle.esm_io.specs.Faults.{Rose}
@@ -24,7 +24,7 @@ use Rattle.esm_registry.specs.Pairs.{arns}
 use Rattle.esm_registry.specs.Payload.{after_payload, mappings_of}
 use Rattle.esm_registry.specs.State.{OpensToStep}
 
--- this payload was written, or none where there is none
+-- this payload was written, or nothing where there is none
 pub record Writes {D T : Type 0} (m : DiskMeaning D) (old new : JournalState D) (payload : Option (List ℕ)) (result : Result T RegistryError) : Type 0 where
   pub payloads : OnOk result (new.payloads ≡ old.payloads ++ option_to_list payload)
   pub up : OnOk result (new.down ≡ false)
@@ -37,7 +37,7 @@ pub record Writes {D T : Type 0} (m : DiskMeaning D) (old new : JournalState D) 
   pub honesty : m.honest new.disk ≡ m.honest old.disk
   pub never_falls : m.faults old.disk ≤ m.faults new.disk
 
--- what is answered, and the mappings afterwards
+-- the answer, and the mappings afterwards
 pub record Answers (old new : Mappings) (stepped : Stepped) (result : Result Applied RegistryError) : Type 0 where
   pub answer : IfOk result (λ a. a ≡ stepped.answer)
   pub mappings : OnOk result (new ≡ stepped.after)
@@ -48,7 +48,7 @@ abbrev pub IsPlan : {C : Type 0} → (C → Stepped) → (C → Type 0) → Mapp
 IsPlan step P s stepped (Answer a) = stepped ≡ answered s a
 IsPlan step P s stepped (Change c) = (stepped ≡ step c) × P c
 
--- the payload is one of a journal's, and says what the mappings are after it
+-- the payload fits into a journal and says the mappings after it
 pub record Says (s : Mappings) (payload : List ℕ) (after : Mappings) : Type 0 where
   pub short : length payload ≤ MAX_PAYLOAD
   pub says : after_payload payload s ≡ Some after
@@ -95,9 +95,9 @@ pub record IsDeletion (s : Mappings) (d : Deletion) : Type 0 where
   pub payload : Says s d.payload.items (after_deletion s d)
   pub its : HasPair s.list d.id (arns d.pair)
 
--- carrying out
+-- carrying out a command
 
--- before a command: no promise is open, the journal is not down, and it says the mappings
+-- before a command: no promise is open, the journal is not down, and its payloads say the mappings
 pub record IsReady {D : Type 0} (table : TableState) (journal : JournalState D) : Type 0 where
   pub free : table.promised ≡ None
   pub up : journal.down ≡ false

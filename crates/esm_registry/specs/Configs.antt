@@ -1,5 +1,5 @@
--- What the registry takes of configurations, under names that proofs do not open: how a new mapping's value and an update's
--- are judged, and the canonical text.
+-- What the registry uses of configurations, under names that proofs do not open: how the value of a new mapping and that
+-- of an update are judged, and the canonical text.
 use Rattle.std.specs.Prelude.{◌≡◌, ℕ, List, Some, Result}
 use Rattle.serde_json.specs.Data.{Data}
 use Rattle.serde_json.specs.Read.{read}
@@ -9,11 +9,11 @@ use Rattle.esm_config.specs.Merge.{judge_update}
 use Rattle.esm_config.specs.Text.{config_text}
 use Rattle.esm_config.specs.declared.param.Param.{Param}
 
--- the configuration that a value gives, or the first field that is refused
+-- the configuration that a value states, or the first field that is refused
 unfoldable pub config_judged : Data → Result Config Param
 config_judged d = judge d
 
--- the configuration that an update makes of another, or the first field that is refused
+-- the configuration after an update, or the first field that is refused
 unfoldable pub update_judged : Config → Data → Result Config Param
 update_judged old d = judge_update old d
 

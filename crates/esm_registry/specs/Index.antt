@@ -5,7 +5,7 @@ use Rattle.esm_model.specs.declared.config.Config.{Config}
 use Rattle.esm_registry.specs.declared.mapping.Mapping.{Mapping}
 use Rattle.esm_registry.specs.Lists.{Mappings, mapping_at}
 
--- a source's ARN and a function's
+-- the ARNs of a source and of a function
 pub record Arns : Type 0 where
   pub source : List ℕ
   pub function : List ℕ
@@ -13,15 +13,16 @@ pub record Arns : Type 0 where
 abbrev pub arns_of : Config → Arns
 arns_of c = record { source = c.source_arn; function = c.function_arn }
 
--- the first are those of the second
+-- whether they are the same
 abbrev pub is_same : Arns → Arns → Bool
 is_same p q = bytes_eq q.source p.source && bytes_eq q.function p.function
 
--- 1 where they are
+-- 1 where they are, and 0 elsewhere
 unfoldable pub one_of : Arns → Arns → ℕ
 one_of p q = if is_same p q then 1 else 0
 
--- the mappings, and the source and function of one that may be put in the place of another without memory
+-- the mappings, and the source and function for which a count is held ready, so that a mapping can get them without
+-- memory
 pub record TableState : Type 0 where
   pub mappings : Mappings
   pub promised : Option Arns
@@ -35,7 +36,7 @@ abbrev pub count_promised : Arns → Option Arns → ℕ
 count_promised p None = 0
 count_promised p (Some q) = one_of p q
 
--- a mapping with the UUID is there, and has this source and function
+-- there is a mapping with the UUID, and it has this source and function
 pub record HasPair (list : List Mapping) (id : List ℕ) (p : Arns) : Type 0 where
   pub mapping : Mapping
   pub there : mapping_at id list ≡ Some mapping

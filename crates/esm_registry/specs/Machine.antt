@@ -1,7 +1,7 @@
--- The registry as a machine: what a command answers, the mappings after it, and the payload that is written for it. Source:
--- the Lambda API reference, `CreateEventSourceMapping`, `UpdateEventSourceMapping`, `GetEventSourceMapping`,
--- `ListEventSourceMappings` and `DeleteEventSourceMapping` with their errors; the order of the refusals and their messages
--- are this product's own.
+-- The registry as a machine: the answer to a command, the mappings after it, and the payload that it writes. Source: the
+-- Lambda API reference, `CreateEventSourceMapping`, `UpdateEventSourceMapping`, `GetEventSourceMapping`,
+-- `ListEventSourceMappings` and `DeleteEventSourceMapping` with their errors; the order of the refusals and their
+-- messages are this product's own.
 use Rattle.std.specs.Prelude.{ℕ, ◌+◌, min, Bool, ◌||◌, List, [], ◌∷◌, ◌++◌, codes, Option, Some, None, is_some, Result, Ok, Err, if◌then◌else◌}
 use Rattle.serde_json.specs.Data.{Data}
 use Rattle.serde_json.specs.View.{view}
@@ -36,13 +36,13 @@ asked (command.Get id) = Get id
 asked (command.Update id value) = Update id (view value)
 asked (command.Delete id) = Delete id
 
--- what is answered, the mappings afterwards, and the payload that is written, where one is
+-- the answer, the mappings afterwards, and the payload that is written, if there is one
 pub record Stepped : Type 0 where
   pub answer : Applied
   pub after : Mappings
   pub payload : Option (List ℕ)
 
--- nothing is written
+-- the answer of a command that writes nothing
 abbrev pub answered : Mappings → Applied → Stepped
 answered s answer = record { answer = answer; after = s; payload = None }
 
@@ -57,7 +57,7 @@ bad_field s param = answered s (Refused 400 InvalidParameterValueException (name
 
 -- create
 
--- a mapping of the same source and function is there, or one with the UUID
+-- there is a mapping of the same source and function, or one with the same UUID
 abbrev pub has_conflict : Mappings → Config → Bool
 has_conflict s c = is_taken c s.list || is_some (mapping_at (uuid_of c (s.created + 1)) s.list)
 
@@ -82,7 +82,7 @@ got s (Some m) = answered s (One 200 (mapping_text m))
 
 -- update
 
--- another mapping of the same source and function is there
+-- refused if another mapping has the same source and function
 abbrev pub updated : Mappings → List ℕ → Mapping → Config → ℕ → Stepped
 updated s id m c moment =
     if is_taken c (without id s.list) then conflict s
@@ -100,7 +100,7 @@ abbrev pub updated_at : Mappings → List ℕ → Data → ℕ → Option Mappin
 updated_at s id d moment None = not_found s
 updated_at s id d moment (Some m) = updated_by s id m moment (update_judged m.config d)
 
--- delete: the answer is the mapping as it was
+-- delete: the answer shows the mapping as it was
 
 abbrev pub deleted : Mappings → List ℕ → ℕ → Option Mapping → Stepped
 deleted s id moment None = not_found s
@@ -110,7 +110,7 @@ deleted s id moment (Some m) = record {
   payload = Some (payload_of (Deleted id moment));
 }
 
--- at a moment of at most the greatest
+-- at a moment no later than the greatest, `MAX_MOMENT`
 abbrev pub step_at : Mappings → Asked → ℕ → Stepped
 step_at s (Create d) moment = created_by s moment (config_judged d)
 step_at s Listing moment = answered s (Many (list_text s.list))

@@ -1,5 +1,5 @@
--- The names of refusals. Source: the Lambda API reference, common errors; `MethodNotAllowed` and `RequestTooLargeException`
--- stand for what a gateway answers.
+-- The names of the API's errors. Source: the Lambda API reference, common errors; `MethodNotAllowed` and
+-- `RequestTooLargeException` stand for the answers of an API gateway.
 use Rattle.std.specs.Prelude.{ℕ, List, codes}
 use Rattle.esm_registry.specs.declared.command.ErrorName.{ErrorName}
 use Rattle.esm_registry.specs.declared.command.ErrorName.TheVariants as error

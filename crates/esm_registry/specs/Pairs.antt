@@ -1,4 +1,4 @@
--- The counts of sources and functions, as the index keeps them. Only this crate's proofs cite this.
+-- How the index counts the mappings of a source and a function. Only this crate's proofs cite this.
 use Rattle.std.specs.Prelude.{ℕ, String, string_bytes, unwrap_or}
 use Rattle.std.specs.Ordering.{ordering_then}
 use Rattle.std.specs.declared.cmp.Ordering.{Ordering}

@@ -1,5 +1,5 @@
--- What the payloads of a registry's journal say. This product's own format: a kind byte, the sixteen bytes of a UUID, a
--- moment in eight bytes, big-endian, and for kinds 1 and 2 the text of a configuration.
+-- What the payloads of a registry's journal say. The format is this product's own: a kind byte, the sixteen bytes of a
+-- UUID, a moment in eight bytes, big-endian, and for kinds 1 and 2 the text of a configuration.
 use Rattle.std.specs.Prelude.{ℕ, ◌+◌, ◌==◌, nat_lt, List, [], ◌∷◌, ◌++◌, length, take, drop, reverse, Option, Some, None, option_map, option_and_then, if◌then◌else◌}
 use Rattle.std.specs.Int.{w64, to_be_bytes, from_be_bytes}
 use Rattle.std.specs.Result.{result_ok}
@@ -26,7 +26,7 @@ payload_of (Deleted id moment) = head_of 3 id moment
 
 -- what a payload says
 
--- where the text is the canonical one
+-- only if the text is the canonical one
 abbrev pub if_canonical : List ℕ → Option Config → Option Config
 if_canonical text None = None
 if_canonical text (Some config) = if bytes_eq (canonical_text config) text then Some config else None
@@ -38,7 +38,7 @@ config_given d = result_ok (config_judged d)
 unfoldable pub config_in : List ℕ → Option Config
 config_in text = if_canonical text (option_and_then config_given (read_json text))
 
--- the change that these parts of a payload are
+-- the change that these parts of a payload state
 abbrev pub change_at : ℕ → List ℕ → ℕ → List ℕ → Option Change
 change_at kind id moment text =
     if kind == 1 then option_map (Created id moment) (config_in text)
@@ -49,7 +49,7 @@ change_at kind id moment text =
 abbrev pub moment_in : List ℕ → ℕ
 moment_in bytes = from_be_bytes w64 (take 8 bytes)
 
--- the parts behind the kind byte: a moment above the greatest is none
+-- the change that the bytes behind the kind byte state; there is none with a moment above the greatest
 abbrev pub change_behind : ℕ → List ℕ → Option Change
 change_behind kind bytes =
     if nat_lt (length bytes) 24 then None
@@ -62,13 +62,13 @@ change_of (kind ∷ bytes) = change_behind kind bytes
 
 -- what a list of payloads says
 
--- a mapping is created under a UUID that none has
+-- a mapping is created under a UUID that no mapping has
 abbrev pub after_created : Mappings → List ℕ → ℕ → Config → Option Mapping → Option Mappings
 after_created s id moment config (Some m) = None
 after_created s id moment config None =
     Some (record { list = s.list ++ record { id = id; config = config; created = moment; modified = moment } ∷ []; created = s.created + 1 })
 
--- and changed or deleted where one has it
+-- it is updated or deleted only if a mapping has the UUID
 abbrev pub after_updated : Mappings → List ℕ → ℕ → Config → Option Mapping → Option Mappings
 after_updated s id moment config None = None
 after_updated s id moment config (Some m) = Some (record { list = replaced id (changed m config moment) s.list; created = s.created })
@@ -77,7 +77,7 @@ abbrev pub after_deleted : Mappings → List ℕ → Option Mapping → Option M
 after_deleted s id None = None
 after_deleted s id (Some m) = Some (record { list = without id s.list; created = s.created })
 
--- the mappings after a change, where it is one of them
+-- the mappings after a change, if it can follow
 abbrev pub after_change : Mappings → Change → Option Mappings
 after_change s (Created id moment config) = after_created s id moment config (mapping_at id s.list)
 after_change s (Updated id moment config) = after_updated s id moment config (mapping_at id s.list)
@@ -86,11 +86,11 @@ after_change s (Deleted id moment) = after_deleted s id (mapping_at id s.list)
 abbrev pub after_payload : List ℕ → Mappings → Option Mappings
 after_payload payload s = option_and_then (after_change s) (change_of payload)
 
--- of payloads with the newest first
+-- the payloads are here newest first
 abbrev pub told : List (List ℕ) → Option Mappings
 told [] = Some no_mappings
 told (payload ∷ before) = option_and_then (after_payload payload) (told before)
 
--- the mappings that a list of payloads says; nothing where one of them is no payload of a registry
+-- the mappings that a list of payloads says; `None` where one of them is no payload of a registry
 abbrev pub mappings_of : List (List ℕ) → Option Mappings
 mappings_of payloads = told (reverse payloads)

@@ -1,4 +1,4 @@
--- The index of the mappings in memory: by place, and by UUID. Only this crate's proofs cite this.
+-- The index of the mappings in memory, by place and by UUID. Only this crate's proofs cite this.
 use Rattle.std.specs.Prelude.{◌≡◌, ℕ, ◌<◌, List, [], ◌∷◌, Some}
 use Rattle.std.specs.Ordering.{nat_cmp}
 use Rattle.std.specs.Cmp.Lexicographic.{slice_cmp}
@@ -14,7 +14,7 @@ id_cmp = slice_cmp nat_cmp
 abbrev pub list_of : BTreeMap ℕ Mapping → List Mapping
 list_of mappings = values_of mappings.entries
 
--- a mapping at its place: it is found by its UUID, its place is below the next, and its configuration is one that is given
+-- a mapping at its place: its UUID leads there, the place is below the next one, and its configuration is a valid one
 pub record IsPlaced (places : BTreeMap (List ℕ) ℕ) (next place : ℕ) (m : Mapping) : Type 0 where
   pub found : get id_cmp places m.id ≡ Some place
   pub below : place < next
@@ -30,7 +30,8 @@ pub record HasMapping (mappings : BTreeMap ℕ Mapping) (id : List ℕ) (place :
   pub there : get nat_cmp mappings place ≡ Some mapping
   pub its_id : mapping.id ≡ id
 
--- The mappings stand in the order of their places, and the index leads to each by its UUID and to no other.
+-- The mappings are in the order of their places, and the index leads from each UUID to its mapping and has no other
+-- UUIDs.
 pub record IsIndex (mappings : BTreeMap ℕ Mapping) (places : BTreeMap (List ℕ) ℕ) (next : ℕ) : Type 0 where
   pub ordered : IsOrdered nat_cmp mappings
   pub placed : ArePlaced places next mappings.entries

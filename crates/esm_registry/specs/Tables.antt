@@ -1,4 +1,4 @@
--- What the mappings in memory mean, and what they keep. Only this crate's proofs cite this.
+-- What the mappings in memory mean, and their invariant. Only this crate's proofs cite this.
 use Rattle.std.specs.Prelude.{◌≡◌, ℕ, ◌+◌, List, Option, option_map}
 use Rattle.std.specs.BTreeMap.{BTreeMap}
 use Rattle.esm_registry.specs.declared.mapping.Mapping.{Mapping}
@@ -10,7 +10,7 @@ use Rattle.esm_registry.specs.Places.{list_of, IsIndex}
 abbrev pub table_state : Inside → TableState
 table_state t = record { mappings = record { list = list_of t.mappings; created = t.created }; promised = option_map arns t.promised }
 
--- each source and function has its count, with one more where it is promised
+-- each source and function has its count, one higher while it is promised
 abbrev pub AreCounted : BTreeMap ArnTexts ℕ → List Mapping → Option Arns → Type 0
 AreCounted counts list promised = (p : ArnTexts) → count_at counts p ≡ count_in (arns p) list + count_promised (arns p) promised
 

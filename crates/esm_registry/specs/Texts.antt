@@ -1,5 +1,5 @@
--- What is written of mappings. Source: the Lambda API reference, `GetEventSourceMapping` and `ListEventSourceMappings`; the
--- order of the members, and moments in whole seconds, are this product's own.
+-- The JSON texts of mappings. Source: the Lambda API reference, `GetEventSourceMapping` and `ListEventSourceMappings`;
+-- the order of the members, and moments in whole seconds, are this product's own.
 use Rattle.std.specs.Prelude.{ℕ, ◌/◌, Bool, List, ◌++◌, map, codes, if◌then◌else◌}
 use Rattle.std.specs.List.{join_with_byte}
 use Rattle.serde_json.specs.Data.{Data, number, string, object, unsigned, Members, no_members, member}
@@ -9,14 +9,14 @@ use Rattle.esm_config.specs.Member.{and_members}
 use Rattle.esm_config.specs.Text.{settings_of}
 use Rattle.esm_registry.specs.declared.mapping.Mapping.{Mapping}
 
--- whole seconds of a moment in milliseconds
+-- the whole seconds of a moment in milliseconds
 abbrev pub seconds_of : ℕ → ℕ
 seconds_of moment = moment / 1000
 
 abbrev pub state_text : Bool → List ℕ
 state_text enabled = if enabled then codes "Enabled" else codes "Disabled"
 
--- what stands before a mapping's settings
+-- the members before a mapping's settings
 unfoldable pub first_members : Mapping → Members
 first_members m =
     member (codes "UUID") (string (hyphenated_text lower m.id))
@@ -26,7 +26,7 @@ first_members m =
     (member (codes "LastModified") (number (unsigned (seconds_of m.modified)))
     no_members))))
 
--- the object of a mapping, with its settings from `BatchSize` on
+-- the JSON object of a mapping, with its settings from `BatchSize` on
 abbrev pub mapping_data : Mapping → Data
 mapping_data m = object (and_members (first_members m) (settings_of m.config))
 

@@ -1,4 +1,4 @@
-// The texts of answers.
+// Writing the JSON texts of answers.
 ghost use Rattle.std.specs.Prelude.{◌≡◌, ◌++◌, false, IfOk, OnOk};
 ghost use Rattle.serde_json.specs.Data.{string};
 ghost use Rattle.serde_json.specs.View.{view};
@@ -13,7 +13,7 @@ use serde_json::Value;
 use std::alloc::Global;
 use uuid::Uuid;
 
-/// A member whose value is a text.
+/// A member whose value is a string.
 fn text_member(alloc: Global, name: &'static str, text: &str) -> Result<Member, OutOfMemory>
     ensures name { IfOk result (λ m. m.name.now ≡ name.now) }
     ensures value { IfOk result (λ m. view m.value ≡ string text.now) }
@@ -22,7 +22,7 @@ fn text_member(alloc: Global, name: &'static str, text: &str) -> Result<Member, 
     Ok(Member { name, value })
 }
 
-/// What stands before a mapping's settings.
+/// The members before a mapping's settings.
 #[tactic(auto, unfolding(crate::specs::Texts::first_members))]
 fn first_members(alloc: Global, mapping: &Mapping) -> Result<Vec<Member>, OutOfMemory>
     ensures members { IfOk result (λ members. members_of members.items ≡ first_members mapping.now) }
@@ -58,7 +58,7 @@ pub(crate) fn mapping_text(alloc: Global, mapping: &Mapping) -> Result<Vec<u8>, 
     object_text(alloc, &members)
 }
 
-/// Puts one mapping more behind those of a list.
+/// Appends a mapping to the text of a list, after a comma if `later`.
 pub(crate) fn push_mapping(
     alloc: Global,
     text: &mut Vec<u8>,

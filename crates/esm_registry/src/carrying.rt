@@ -1,4 +1,5 @@
-// What was planned is carried out: one payload, and the mappings in memory. All memory is taken before the disk is called.
+// Carrying out what was planned: one payload is written, and the mappings in memory are changed. All memory is taken
+// before the disk is called.
 ghost use Rattle.std.specs.Prelude.{◌≡◌, ◌≤◌, length, false, Some};
 ghost use Rattle.esm_io.specs.Meanings.{disk as meaning};
 ghost use Rattle.esm_registry.specs.Applying.{Writes, IsReady, Obeys, IsCreation, IsUpdate, IsDeletion, creation_step, update_step, deletion_step};
@@ -11,7 +12,7 @@ use esm_journal::{AppendError, Journal};
 use esm_model::MAX_PAYLOAD;
 use std::alloc::Global;
 
-/// Writes a payload.
+/// Appends a payload to the journal.
 fn write<D: Disk>(
     journal: &mut Journal<D>,
     alloc: Global,
@@ -29,7 +30,7 @@ fn write<D: Disk>(
     }
 }
 
-/// Creates a mapping.
+/// Creates the mapping. If the payload cannot be written, the mapping is removed again.
 pub(crate) fn create<D: Disk>(
     table: &mut Table,
     journal: &mut Journal<D>,
@@ -68,7 +69,7 @@ pub(crate) fn create<D: Disk>(
     }
 }
 
-/// Changes a mapping.
+/// Puts the mapping in place of the old one. If the payload cannot be written, the promise is released.
 pub(crate) fn update<D: Disk>(
     table: &mut Table,
     journal: &mut Journal<D>,
@@ -106,7 +107,7 @@ pub(crate) fn update<D: Disk>(
     }
 }
 
-/// Deletes a mapping.
+/// Deletes the mapping, once its payload is written.
 pub(crate) fn delete<D: Disk>(
     table: &mut Table,
     journal: &mut Journal<D>,

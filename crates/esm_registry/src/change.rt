@@ -2,7 +2,7 @@
 use esm_model::Config;
 use uuid::Uuid;
 
-/// What one payload of a registry's journal says. Moments are milliseconds since 1970.
+/// What one payload of a registry's journal says. Moments are in milliseconds since 1970.
 #[derive(Drop, Debug)]
 pub enum Change {
     /// A mapping was created.
@@ -11,7 +11,7 @@ pub enum Change {
         moment: u64,
         config: Config,
     },
-    /// A mapping has another configuration.
+    /// A mapping got another configuration.
     Updated {
         id: Uuid,
         moment: u64,

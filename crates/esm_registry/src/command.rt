@@ -1,4 +1,4 @@
-// The commands of the mappings' API, their answers, and the errors of the registry.
+// The commands of the mapping API, their answers, and the errors of the registry.
 ghost use Rattle.std.specs.Prelude.{◌≡◌};
 ghost use Rattle.esm_registry.specs.Names.{error_text};
 
@@ -6,7 +6,7 @@ use esm_model::{Bytes, Text};
 use serde_json::Value;
 use uuid::Uuid;
 
-/// A command of the mappings' API, with the JSON value of its body.
+/// A command of the mapping API, with the JSON value of its body.
 #[derive(Drop)]
 pub enum Command {
     /// `CreateEventSourceMapping`.
@@ -21,7 +21,7 @@ pub enum Command {
     Delete(Uuid),
 }
 
-/// What a command answers.
+/// The answer to a command.
 #[derive(Drop, Debug)]
 pub enum Applied {
     /// A mapping, as the JSON text of the answer's body.
@@ -33,7 +33,7 @@ pub enum Applied {
     Many {
         mappings: Bytes,
     },
-    /// A refusal, after which nothing has changed.
+    /// The command was refused, and nothing has changed.
     Refused {
         status: u16,
         error: ErrorName,
@@ -41,7 +41,7 @@ pub enum Applied {
     },
 }
 
-/// The names of the API's errors (`x-amzn-ErrorType`).
+/// The names of the API's errors, as in the header `x-amzn-ErrorType`.
 #[derive(Clone, Copy, Debug, PartialEq, Eq)]
 pub enum ErrorName {
     InvalidRequestContentException,
@@ -74,18 +74,18 @@ impl ErrorName {
 #[derive(Clone, Copy, Debug, PartialEq, Eq)]
 pub enum RegistryError {
     /// The disk's count of faults rose. The registry applies nothing more until it is opened again; its journal may then
-    /// hold this command's payload or not.
+    /// hold this command's payload.
     DiskFault,
-    /// An earlier command answered `DiskFault`.
+    /// An earlier command returned `DiskFault`.
     Down,
-    /// Nothing has changed.
+    /// An allocation failed, or a count or the payload exceeds its limit. Nothing has changed.
     OutOfMemory,
 }
 
 /// Why a registry could not be opened.
 #[derive(Clone, Copy, Debug, PartialEq, Eq)]
 pub enum RegistryOpen {
-    /// The first payload of the journal that is none of a registry's.
+    /// The index, counted from 0, of the first payload with which the journal is not one of a registry's.
     BadPayload(u32),
     OutOfMemory,
 }

@@ -1,4 +1,4 @@
-// How many mappings have a source and a function.
+// How many mappings have the same source and function.
 ghost use Rattle.std.specs.Prelude.{◌≡◌, ◌+◌, ◌-◌, OnOk, OnErr};
 ghost use Rattle.esm_registry.specs.Index.{arns_of, is_same, one_of};
 ghost use Rattle.esm_registry.specs.Pairs.{ArnTexts, arns, count_at};
@@ -16,14 +16,14 @@ pub(crate) fn is_pair(pair: &Pair, config: &Config) -> bool
     config.source_arn.as_str() == pair.0.as_str() && config.function_arn.as_str() == pair.1.as_str()
 }
 
-/// How many.
+/// How many mappings have this source and function.
 pub(crate) fn count_of(counts: &BTreeMap<Pair, u64>, pair: &Pair) -> u64
     ensures { result ≡ count_at counts.now pair.now }
 {
     counts.get(pair).copied().unwrap_or(0)
 }
 
-/// One more. After want of memory nothing has changed.
+/// Adds one to the count. After `OutOfMemory` nothing has changed.
 pub(crate) fn raise(counts: &mut BTreeMap<Pair, u64>, pair: Pair) -> Result<(), OutOfMemory>
     ensures raised { OnOk result ((p : ArnTexts) → count_at counts.new p ≡ count_at counts.old p + one_of (arns p) (arns pair)) }
     ensures kept { OnErr result ((p : ArnTexts) → count_at counts.new p ≡ count_at counts.old p) }
@@ -36,7 +36,7 @@ pub(crate) fn raise(counts: &mut BTreeMap<Pair, u64>, pair: Pair) -> Result<(), 
     Ok(())
 }
 
-/// One fewer, where there is one. Takes no memory.
+/// Takes one from the count, unless it is 0. Takes no memory.
 pub(crate) fn lower(counts: &mut BTreeMap<Pair, u64>, pair: &Pair)
     ensures { (p : ArnTexts) → count_at counts.new p ≡ count_at counts.old p - one_of (arns p) (arns pair.now) }
 {

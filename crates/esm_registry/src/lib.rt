@@ -1,5 +1,5 @@
-//! The registry of event source mappings: a list of mappings and a number of creations, kept in a journal of its own
-//! payloads, as one machine. A command answers and changes what the Lambda API reference says, whole or not at all.
+//! The registry of event source mappings: a list of mappings and a count of creations, kept in a journal with payloads of
+//! its own. A command answers and changes what the Lambda API reference says; it takes effect whole or not at all.
 #![tactic(auto)]
 
 mod answers;

@@ -5,7 +5,7 @@ use uuid::Uuid;
 /// An event source mapping.
 #[derive(Drop, Debug)]
 pub struct Mapping {
-    /// Of version 3, of the source, the function and the creation number; it never changes.
+    /// A UUID of version 3, from the source, the function and the creation number; it never changes.
     pub id: Uuid,
     pub config: Config,
     /// When it was created, in milliseconds since 1970; it never changes.

@@ -1,4 +1,4 @@
-// What a mapping is called, and what it reads for whom.
+// The UUID of a mapping, and its source and function.
 ghost use Rattle.std.specs.Prelude.{◌≡◌, IfOk};
 ghost use Rattle.esm_registry.specs.Index.{arns_of};
 ghost use Rattle.esm_registry.specs.Lists.{uuid_of};
@@ -9,7 +9,7 @@ use esm_model::{Config, OutOfMemory};
 use std::alloc::Global;
 use uuid::Uuid;
 
-/// The UUID of the mapping that is created as this one in number.
+/// The UUID of the mapping whose creation has this number, counted from 1.
 #[tactic(auto, unfolding(crate::specs::Lists::uuid_of))]
 pub(crate) fn uuid_of(alloc: Global, config: &Config, number: u64) -> Result<Uuid, OutOfMemory>
     ensures { IfOk result (λ id. id ≡ uuid_of config.now number) }

@@ -1,4 +1,4 @@
-// A command is planned and carried out.
+// Planning a command and carrying it out.
 ghost use Rattle.std.specs.Prelude.{◌≡◌, ◌≤◌, map, IfOk};
 ghost use Rattle.std.specs.List.{All, IsDistinct};
 ghost use Rattle.std.specs.Str.{bytes_eq};
@@ -134,7 +134,7 @@ fn list<D: Disk>(
     }
 }
 
-/// Answers a command at a moment of at most the greatest, and carries it out.
+/// Answers a command at a moment of at most `MAX_MOMENT`, and carries it out.
 fn obey_at<D: Disk>(
     table: &mut Table,
     journal: &mut Journal<D>,
@@ -156,7 +156,7 @@ fn obey_at<D: Disk>(
     }
 }
 
-/// Answers a command, and carries it out; a later moment than the greatest counts as that.
+/// Answers a command and carries it out. A moment above `MAX_MOMENT` counts as `MAX_MOMENT`.
 pub(crate) fn obey<D: Disk>(
     table: &mut Table,
     journal: &mut Journal<D>,

@@ -1,4 +1,4 @@
-// The mappings that a list of payloads says.
+// Rebuilding the mappings from a journal's payloads.
 ghost use Rattle.std.specs.Prelude.{◌≡◌, ℕ, Some, None, IfOk, IfErr, OnOk};
 ghost use Rattle.esm_registry.specs.declared.command.RegistryOpen.TheVariants.{BadPayload};
 ghost use Rattle.esm_config.specs.Given.{IsGiven};
@@ -97,7 +97,7 @@ fn delete(alloc: Global, table: &mut Table, id: Uuid) -> Result<bool, OutOfMemor
     }
 }
 
-/// Makes a change, where it is one of these mappings.
+/// Makes a change. Returns whether it can follow these mappings.
 fn make(alloc: Global, table: &mut Table, change: Change) -> Result<bool, OutOfMemory>
     requires free { table.old.promised ≡ None }
     requires given { HoldsGiven change }
@@ -111,7 +111,7 @@ fn make(alloc: Global, table: &mut Table, change: Change) -> Result<bool, OutOfM
     }
 }
 
-/// Takes in one more payload, where it is one of a registry's.
+/// Applies one more payload. Returns whether it is one of a registry's.
 fn take(alloc: Global, table: &mut Table, payload: &[u8]) -> Result<bool, OutOfMemory>
     requires free { table.old.promised ≡ None }
     ensures made { IfOk result (λ made. Makes made (after_payload payload.now table.old.mappings) table.new.mappings) }
@@ -123,7 +123,8 @@ fn take(alloc: Global, table: &mut Table, payload: &[u8]) -> Result<bool, OutOfM
     }
 }
 
-/// That the payload with this index is none of a registry's. No memory holds so many that 32 bits do not count them.
+/// The error that names the payload with this index; `OutOfMemory` if 32 bits do not count it, since no memory holds so
+/// many.
 fn bad_payload(index: usize) -> RegistryOpen
     ensures { (i : ℕ) → result ≡ BadPayload i → i ≡ index }
 {
@@ -133,7 +134,7 @@ fn bad_payload(index: usize) -> RegistryOpen
     }
 }
 
-/// The mappings that the payloads say, the oldest payload first.
+/// The mappings that the payloads say; the payloads are oldest first.
 pub(crate) fn table_of(alloc: Global, payloads: &[Bytes]) -> Result<Table, RegistryOpen>
     ensures said { IfOk result (λ table. mappings_of payloads.now ≡ Some table.mappings) }
     ensures free { IfOk result (λ table. table.promised ≡ None) }

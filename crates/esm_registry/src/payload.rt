@@ -1,4 +1,4 @@
-// The payloads of a registry's journal, written and read.
+// Writing and reading the payloads of a registry's journal.
 ghost use Rattle.std.specs.Prelude.{◌≡◌, ◌≤◌, ◌++◌, length, take, drop, Some, string_bytes, IfOk, IfSome, OnOk};
 ghost use Rattle.std.specs.Str.{IsUtf8};
 ghost use Rattle.esm_config.specs.Given.{IsGiven};
@@ -19,7 +19,7 @@ const UPDATED: u8 = 2;
 
 const DELETED: u8 = 3;
 
-/// The kind byte, the UUID and the moment.
+/// The kind byte, the UUID and the moment in milliseconds.
 fn head(alloc: Global, kind: u8, id: &Uuid, moment: u64) -> Result<Vec<u8>, OutOfMemory>
     ensures bytes { IfOk result (λ head. head.items ≡ head_of kind id.now moment) }
     ensures sixteen { OnOk result (length id.now ≡ 16) }
@@ -30,7 +30,7 @@ fn head(alloc: Global, kind: u8, id: &Uuid, moment: u64) -> Result<Vec<u8>, OutO
     Ok(bytes)
 }
 
-/// The head, and behind it the configuration's text. No payload of a journal is as long as what does not fit.
+/// The head, followed by the configuration's text. `OutOfMemory` also if this is longer than a journal's payload can be.
 fn with_config(
     alloc: Global,
     kind: u8,
@@ -52,7 +52,7 @@ fn with_config(
     Ok(payload)
 }
 
-/// The configuration's text.
+/// The configuration's canonical text.
 #[tactic(auto, unfolding(crate::specs::Configs::canonical_text))]
 fn canonical(alloc: Global, config: &Config) -> Result<String, OutOfMemory>
     ensures { IfOk result (λ text. string_bytes text ≡ canonical_text config.now) }
@@ -113,7 +113,7 @@ pub(crate) fn deleted(alloc: Global, id: &Uuid, moment: u64) -> Result<Vec<u8>, 
     Ok(payload)
 }
 
-/// The configuration of which this is the canonical text.
+/// The configuration of which this is the canonical text, if there is one.
 #[tactic(auto, unfolding(crate::specs::Payload::config_in, crate::specs::Configs::config_judged))]
 fn config_in(alloc: Global, bytes: &[u8]) -> Result<Option<Config>, OutOfMemory>
     ensures config { IfOk result (λ config. config ≡ config_in bytes.now) }
@@ -147,7 +147,7 @@ fn id_and_moment(bytes: &[u8]) -> (Uuid, u64)
     (Uuid::from_bytes(id), u64::from_be_bytes(moment))
 }
 
-/// What a payload says; `None` where it is none of a registry's.
+/// What a payload says; `None` where it is no payload of a registry.
 #[tactic(auto, unfolding(crate::specs::Payload::change_of))]
 pub(crate) fn read_change(alloc: Global, payload: &[u8]) -> Result<Option<Change>, OutOfMemory>
     ensures change { IfOk result (λ change. change ≡ change_of payload.now) }
@@ -174,7 +174,7 @@ fn read_behind(alloc: Global, kind: u8, bytes: &[u8]) -> Result<Option<Change>, 
     change_at(alloc, kind, id, moment, &bytes[24..])
 }
 
-/// The change that these parts of a payload are.
+/// The change that these parts of a payload state.
 fn change_at(
     alloc: Global,
     kind: u8,

@@ -1,4 +1,4 @@
-// The mappings by place, and the place of each UUID.
+// The mappings by their place, and the place of each UUID.
 ghost use Rattle.std.specs.Prelude.{◌≡◌, ◌+◌, ◌++◌, ◌∷◌, [], ℕ, Some, None, IsSome, OnOk, OnErr};
 ghost use Rattle.std.specs.BTreeMap.{get, is_at, IsOrdered, UpdatesBy};
 ghost use Rattle.std.specs.Map.{set_value};
@@ -13,7 +13,7 @@ use std::collections::BTreeMap;
 use std::mem;
 use uuid::Uuid;
 
-/// Puts a mapping at the next place. After want of memory nothing has changed.
+/// Puts a mapping at the next place. After `OutOfMemory` nothing has changed.
 pub(crate) fn place(
     mappings: &mut BTreeMap<u64, Mapping>,
     places: &mut BTreeMap<Uuid, u64>,
@@ -37,7 +37,7 @@ pub(crate) fn place(
     Ok(())
 }
 
-/// Takes the mapping with this UUID away, where there is one. Takes no memory.
+/// Removes the mapping with this UUID, if there is one. Takes no memory.
 pub(crate) fn unplace(
     mappings: &mut BTreeMap<u64, Mapping>,
     places: &mut BTreeMap<Uuid, u64>,
@@ -54,7 +54,7 @@ pub(crate) fn unplace(
     }
 }
 
-/// Puts a mapping in the place of the one with its UUID, where there is one. Takes no memory.
+/// Puts a mapping in place of the one with its UUID, if there is one. Takes no memory.
 pub(crate) fn replace(
     mappings: &mut BTreeMap<u64, Mapping>,
     places: &BTreeMap<Uuid, u64>,
@@ -70,7 +70,7 @@ pub(crate) fn replace(
     }
 }
 
-/// Puts a mapping in the place of the one that is there.
+/// Puts a mapping at this place, if there is one there.
 fn put(mappings: &mut BTreeMap<u64, Mapping>, place: u64, mapping: Mapping)
     ensures entries { IsSome (get nat_cmp mappings.old place) → mappings.new.entries ≡ set_value (is_at (nat_cmp place)) mappings.old.entries mapping }
     ensures updates { IsSome (get nat_cmp mappings.old place) → UpdatesBy nat_cmp (nat_cmp place) mappings.old mappings.new (Some mapping) }

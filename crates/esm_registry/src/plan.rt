@@ -1,4 +1,4 @@
-// What a command comes to, with all its memory, before anything is changed.
+// Planning a command: its outcome is computed, and all its memory taken, before anything is changed.
 ghost use Rattle.std.specs.Prelude.{◌≡◌, ◌+◌, ◌≤◌, Some, None, codes, IfOk};
 ghost use Rattle.serde_json.specs.View.{view};
 ghost use Rattle.esm_config.specs.Given.{IsGiven};
@@ -25,12 +25,12 @@ use serde_json::Value;
 use std::alloc::Global;
 use uuid::Uuid;
 
-/// What a command comes to.
+/// The plan of a command.
 #[derive(Drop)]
 pub(crate) enum Plan<C> {
-    /// It is answered at once, and nothing is changed.
+    /// It is answered at once; nothing is changed.
     Answer(Applied),
-    /// This is to be changed.
+    /// This change is to be made.
     Change(C),
 }
 
@@ -38,7 +38,7 @@ pub(crate) enum Plan<C> {
 #[derive(Drop)]
 pub(crate) struct Creation {
     pub(crate) mapping: Mapping,
-    /// Its source and function, and once more to take it back.
+    /// Its source and function, and a copy to take the creation back.
     pub(crate) pair: Pair,
     pub(crate) undo: Pair,
     pub(crate) payload: Vec<u8>,
@@ -46,11 +46,11 @@ pub(crate) struct Creation {
     pub(crate) text: Bytes,
 }
 
-/// A mapping that is to stand in the place of the one with its UUID.
+/// A mapping that is to replace the one with its UUID.
 #[derive(Drop)]
 pub(crate) struct Update {
     pub(crate) mapping: Mapping,
-    /// Its source and function, and those of the one so far.
+    /// Its source and function, and those of the mapping so far.
     pub(crate) pair: Pair,
     pub(crate) old: Pair,
     pub(crate) payload: Vec<u8>,
@@ -108,7 +108,7 @@ fn bad_field(alloc: Global, param: Param) -> Result<Applied, OutOfMemory>
     )
 }
 
-/// The configuration that a value gives, or the first field that is refused.
+/// The configuration that a value states, or the first field that is refused.
 #[tactic(auto, unfolding(crate::specs::Configs::config_judged))]
 fn judged(alloc: Global, value: &Value) -> Result<Result<Config, Param>, OutOfMemory>
     ensures judged { IfOk result (λ r. r ≡ config_judged (view value.now)) }
@@ -121,7 +121,7 @@ fn judged(alloc: Global, value: &Value) -> Result<Result<Config, Param>, OutOfMe
     }
 }
 
-/// The configuration that an update makes of another, or the first field that is refused.
+/// The configuration after an update, or the first field that is refused.
 #[tactic(auto, unfolding(crate::specs::Configs::update_judged))]
 fn update_judged(
     alloc: Global,
@@ -138,7 +138,7 @@ fn update_judged(
     }
 }
 
-/// Whether a mapping is there beside which one with this configuration and UUID cannot stand.
+/// Whether there is a mapping that excludes one with this configuration and UUID.
 fn has_conflict(table: &Table, pair: &Pair, id: &Uuid, config: &Config) -> bool
     requires free { table.now.promised ≡ None }
     requires pair { arns pair.now ≡ arns_of config.now }
@@ -152,7 +152,7 @@ fn has_conflict(table: &Table, pair: &Pair, id: &Uuid, config: &Config) -> bool
     table.find(id).is_some()
 }
 
-/// What the creation of a mapping with this configuration comes to.
+/// The plan of creating a mapping with this configuration.
 fn plan_creation(
     alloc: Global,
     table: &Table,
@@ -195,7 +195,7 @@ fn plan_creation(
     }))
 }
 
-/// What `Create` comes to.
+/// The plan of a `Create`.
 pub(crate) fn plan_create(
     alloc: Global,
     table: &Table,
@@ -217,7 +217,7 @@ pub(crate) fn plan_create(
     }
 }
 
-/// What another configuration of a mapping comes to.
+/// The plan of giving a mapping another configuration.
 fn plan_change(
     alloc: Global,
     table: &Table,
@@ -257,7 +257,7 @@ fn plan_change(
     }))
 }
 
-/// What an update of this mapping comes to.
+/// The plan of an update of this mapping.
 fn plan_update_of(
     alloc: Global,
     table: &Table,
@@ -281,7 +281,7 @@ fn plan_update_of(
     }
 }
 
-/// What `Update` comes to.
+/// The plan of an `Update`.
 pub(crate) fn plan_update(
     alloc: Global,
     table: &Table,
@@ -303,7 +303,7 @@ pub(crate) fn plan_update(
     }
 }
 
-/// What `Delete` comes to.
+/// The plan of a `Delete`.
 pub(crate) fn plan_delete(
     alloc: Global,
     table: &Table,

@@ -1,4 +1,4 @@
-// The registry of event source mappings, kept in a journal: opening it, and applying commands to it.
+// The registry of event source mappings: opening its journal, and applying commands.
 ghost use Rattle.std.specs.Prelude.{◌≡◌, ℕ, true, false, IfOk, IfErr};
 ghost use Rattle.std.specs.Option.{option_copied};
 ghost use Rattle.esm_io.specs.Meanings.{disk as meaning};
@@ -20,7 +20,7 @@ use std::marker::Model;
 use uuid::Uuid;
 
 /// The mappings, kept in a journal. A command counts once its payload is on the disk, so a crash at any moment leaves
-/// whole commands alone.
+/// only whole commands.
 #[derive(Drop)]
 pub struct Registry<D: Disk> {
     table: Table,
@@ -42,8 +42,9 @@ impl<D: Disk> Model for Registry<D> {
 }
 
 impl<D: Disk> Registry<D> {
-    /// The registry that a journal says. `BadPayload` where one of its payloads is none of a registry's, with the index of
-    /// the first such one. Nothing is written.
+    /// Opens the registry that a journal holds, and writes nothing. `BadPayload` names the index, counted from 0, of the
+    /// first payload with which the journal is not one of a registry's. `OutOfMemory`: an allocation failed, or a count
+    /// exceeds its limit.
     pub fn open(
         alloc: Global,
         journal: Journal<D>,
@@ -51,7 +52,7 @@ impl<D: Disk> Registry<D> {
         requires { journal.down ≡ false }
         ensures journal { IfOk result (λ registry. registry.journal ≡ journal) }
         ensures kept { IfOk result IsRegistry }
-        // When each error comes, and that the journal is given back.
+        // What `BadPayload` names, and that every error gives the journal back.
         ensures bad { IfErr result (λ refused. (i : ℕ) → refused.why ≡ RegistryOpen.BadPayload i → IsFirstBad journal.payloads i) }
         ensures back { IfErr result (λ refused. refused.back ≡ journal) }
     {
@@ -68,8 +69,9 @@ impl<D: Disk> Registry<D> {
         }
     }
 
-    /// Applies one command at a moment in milliseconds since 1970; a later one than the greatest counts as that. Memory is
-    /// taken before the disk is called. `DiskFault` only where the disk's faults rose; every later command answers `Down`.
+    /// Applies one command at a moment in milliseconds since 1970; a moment above the greatest counts as that. All memory
+    /// is taken before the disk is called, so after `OutOfMemory` nothing has changed. `DiskFault` is returned only if
+    /// the disk's count of faults rose; every later command returns `Down`.
     pub fn apply(
         &mut self,
         alloc: Global,
@@ -94,7 +96,7 @@ impl<D: Disk> Registry<D> {
         }
     }
 
-    /// The mapping with this UUID. Takes no memory.
+    /// Returns the mapping with this UUID, if there is one. Takes no memory.
     pub fn find(&self, id: &Uuid) -> Option<&Mapping>
         ensures found { option_copied result ≡ mapping_at id.now self.now.mappings.list }
         ensures kept { IsRegistry self.now }
@@ -103,7 +105,7 @@ impl<D: Disk> Registry<D> {
         self.table.find(id)
     }
 
-    /// Whether a command answered `DiskFault`. Takes no memory.
+    /// Whether a command returned `DiskFault`. Takes no memory.
     pub fn down(&self) -> bool
         ensures down { result ≡ self.now.journal.down }
         ensures kept { IsRegistry self.now }
@@ -112,7 +114,7 @@ impl<D: Disk> Registry<D> {
         self.down
     }
 
-    /// The journal, as the commands left it. Takes no memory.
+    /// Returns the journal as the commands left it. Takes no memory.
     pub fn into_journal(self) -> Journal<D>
         ensures { result ≡ self.journal }
     {

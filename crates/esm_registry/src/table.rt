@@ -1,4 +1,4 @@
-// The mappings in memory, found by their place, their UUID, and their source and function.
+// The mappings in memory, found by place, by UUID, and by source and function.
 ghost use Rattle.std.specs.Prelude.{◌≡◌, ◌+◌, ◌<◌, ◌^◌, ◌∷◌, ◌++◌, [], Some, None, OnOk, OnErr, IfOk, map};
 ghost use Rattle.std.specs.Option.{option_copied};
 ghost use Rattle.std.specs.List.{IsDistinct, All};
@@ -21,10 +21,10 @@ use uuid::Uuid;
 
 #[derive(Drop)]
 pub(crate) struct Table {
-    /// By place: in order of creation.
+    /// By place, which is the order of creation.
     mappings: BTreeMap<u64, Mapping>,
     places: BTreeMap<Uuid, u64>,
-    /// How many mappings have a source and a function, with one more where one is promised.
+    /// How many mappings have a source and a function; one more while it is promised.
     counts: BTreeMap<Pair, u64>,
     /// The place of the next mapping.
     next: u64,
@@ -85,7 +85,7 @@ impl Table {
         count_of(&self.counts, pair)
     }
 
-    /// How many mappings beside this one have this source and function.
+    /// How many mappings other than this one have this source and function.
     pub(crate) fn count_beside(&self, mapping: &Mapping, pair: &Pair) -> u64
         requires free { self.now.promised ≡ None }
         requires there { mapping_at mapping.now.id self.now.mappings.list ≡ Some mapping.now }
@@ -99,7 +99,7 @@ impl Table {
         }
     }
 
-    /// Adds a mapping behind the others. After want of memory nothing has changed.
+    /// Adds a mapping behind the others. After `OutOfMemory` nothing has changed.
     pub(crate) fn add(&mut self, mapping: Mapping, pair: Pair) -> Result<(), OutOfMemory>
         requires is_new { mapping_at mapping.id self.old.mappings.list ≡ None }
         requires pair { arns pair ≡ arns_of mapping.config }
@@ -125,7 +125,7 @@ impl Table {
         }
     }
 
-    /// Counts one creation more.
+    /// Counts one more creation.
     pub(crate) fn count_creation(&mut self)
         requires { self.old.mappings.created + 1 < 2 ^ 64 }
         ensures { self.new ≡ record {
@@ -136,7 +136,7 @@ impl Table {
         self.created += 1;
     }
 
-    /// Takes a mapping away, whose source and function these are. Takes no memory.
+    /// Removes a mapping, which has this source and function. Takes no memory.
     pub(crate) fn remove(&mut self, id: &Uuid, pair: &Pair)
         requires { HasPair self.old.mappings.list id.now (arns pair.now) }
         ensures { self.new ≡ record {
@@ -148,8 +148,8 @@ impl Table {
         lower(&mut self.counts, pair);
     }
 
-    /// Promises that a mapping may come to have this source and function, so that this takes no memory then. After want of
-    /// memory nothing has changed.
+    /// Takes the memory for a mapping to get this source and function, so that `replace` takes none. After `OutOfMemory`
+    /// nothing has changed.
     pub(crate) fn promise(&mut self, pair: Pair) -> Result<(), OutOfMemory>
         requires { self.old.promised ≡ None }
         ensures promised { OnOk result (self.new ≡ record { mappings = self.old.mappings; promised = Some (arns pair) }) }
@@ -162,7 +162,7 @@ impl Table {
         Ok(())
     }
 
-    /// Takes a promise back. Takes no memory.
+    /// Takes the promise back. Takes no memory.
     pub(crate) fn release(&mut self)
         ensures { self.new ≡ record { mappings = self.old.mappings; promised = None } }
     {
@@ -171,7 +171,7 @@ impl Table {
         }
     }
 
-    /// Puts a mapping in the place of the one with its UUID, whose source and function these are; those of the new one were
+    /// Puts a mapping in place of the one with its UUID, which has this source and function; those of the new one were
     /// promised. Takes no memory.
     pub(crate) fn replace(&mut self, mapping: Mapping, pair: &Pair)
         requires its { HasPair self.old.mappings.list mapping.id (arns pair.now) }
@@ -187,7 +187,7 @@ impl Table {
         self.promised = None;
     }
 
-    /// The answer's body for all mappings.
+    /// The answer's body with all mappings.
     pub(crate) fn text(&self, alloc: Global) -> Result<Vec<u8>, OutOfMemory>
         ensures { IfOk result (λ text. text.items ≡ list_text self.now.mappings.list) }
     {

@@ -1,4 +1,4 @@
--- The setting of a replay by the records that came. This product's own.
+-- The setting of a replay, by the records that arrived. This product's own.
 use Rattle.std.specs.Prelude.{ℕ, ◌==◌, Bool, false, not, ◌&&◌, List, [], ◌∷◌, ◌++◌, length, map, filter, option_map, unwrap_or}
 use Rattle.esm_model.specs.declared.config.Config.{Config}
 use Rattle.esm_model.specs.declared.entry.Fate.{Fate}
@@ -11,12 +11,12 @@ use Rattle.esm_replay_model.specs.declared.range.Range.{Range}
 use Rattle.esm_replay_model.specs.ReplaySetting.{ReplaySetting, is_in_ranges}
 use Rattle.esm_replay_model.specs.Pieces.{inserted}
 
--- the shards of the records, by rising number
+-- the shards of the records, in ascending order
 abbrev pub shards_of : List Record → List ℕ
 shards_of [] = []
 shards_of (r ∷ rs) = inserted r.shard (shards_of rs)
 
--- those of the records that are of the shard, in order
+-- the records of the shard, in order
 abbrev pub of_shard : ℕ → List Record → List Record
 of_shard n rs = filter (λ (r : Record). r.shard == n) rs
 
@@ -26,7 +26,8 @@ stream_of rs n = record { shard = n; records = of_shard n rs }
 abbrev pub streams_of : List Record → List Stream
 streams_of rs = map (stream_of rs) (shards_of rs)
 
--- a mapping and the calls allowed, what the journal and the failure file told of at opening, and the records that came
+-- the setting of a mapping and the allowed calls, of what the journal and the failure file said at opening, and of the
+-- records that arrived
 abbrev pub setting_with : Config → ℕ → SaidLists → List Range → List Record → ReplaySetting
 setting_with config calls told ranges rs = record {
   base = record {
@@ -42,19 +43,19 @@ setting_with config calls told ranges rs = record {
   replays = told.replays;
 }
 
--- the journal tells that the record at the place failed for good
+-- the journal says that the record at the place was exhausted or expired
 abbrev pub is_told_failed : SaidLists → ℕ → ℕ → Bool
 is_told_failed told n i = unwrap_or (option_map (λ (f : FoundFate). is_failure f.fate) (fate_told told n i)) false
 
--- the record is named, where it stands at the place
+-- the record is named, if this is its place
 abbrev pub names : SaidLists → List Range → Record → ℕ → Bool
 names told ranges r i = is_told_failed told r.shard i && (is_in_ranges ranges r.shard r.seq && not (is_replay_told told r.shard i))
 
--- the same, from the fate that the journal tells of the place
+-- the same, with the fate that the journal gives the place
 abbrev pub names_by : Fate → SaidLists → List Range → Record → ℕ → Bool
 names_by fate told ranges r i = is_failure fate && (is_in_ranges ranges r.shard r.seq && not (is_replay_told told r.shard i))
 
--- of each of the records whether it is named, where those came before
+-- for each of the records whether it is named, if those arrived before
 abbrev pub are_named : SaidLists → List Range → List Record → List Record → List Bool
 are_named told ranges before [] = []
 are_named told ranges before (r ∷ rs) = names told ranges r (length (of_shard r.shard before)) ∷ are_named told ranges (before ++ r ∷ []) rs

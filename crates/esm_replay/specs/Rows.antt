@@ -1,4 +1,4 @@
--- The named records of each shard, as they are gathered from the records that came. This product's own.
+-- The named records of each shard, as they are gathered from the records that arrived. This product's own.
 use Rattle.std.specs.Prelude.{◌≡◌, ℕ, ◌+◌, ◌≤◌, Bool, true, false, List, [], ◌∷◌, ◌++◌, map, filter, length, take, slice_get, Option, Some, None}
 use Rattle.std.specs.List.{All}
 use Rattle.esm_model.specs.Records.{Record}
@@ -12,13 +12,13 @@ use Rattle.esm_replay.specs.declared.rows.Row.{Row}
 abbrev pub places_of : List Named → List ℕ
 places_of ds = map (λ (d : Named). d.place) ds
 
--- it stands at its place of the shard, as it does among the records
+-- the same record is at the named one's place of the shard and at its position among the records that arrived
 pub record Stands (s : ReplaySetting) (rs : List Record) (n : ℕ) (d : Named) : Type 0 where
   pub own : Record
   pub among : slice_get rs d.at ≡ Some own
   pub there : record_at s.base n d.place ≡ Some own
 
--- the shard's records at the first places, of which the row has the named ones
+-- the row of a shard whose first `count` places have arrived: it has the named ones of them
 pub record IsRow (s : ReplaySetting) (rs : List Record) (n count : ℕ) (row : Row) : Type 0 where
   pub came : row.came ≡ count
   pub some : 1 ≤ count
@@ -30,11 +30,11 @@ abbrev pub IsRowAt : ReplaySetting → List Record → ℕ → ℕ → Option Ro
 IsRowAt s rs n count None = count ≡ 0
 IsRowAt s rs n count (Some row) = IsRow s rs n count row
 
--- of the first records
+-- how many of the first `i` records are of the shard
 abbrev pub count_in : ℕ → List Record → ℕ → ℕ
 count_in n rs i = length (of_shard n (take i rs))
 
--- what a shard has, with a row or without
+-- what a shard has, with or without a row
 
 abbrev pub came_in : Option Row → ℕ
 came_in None = 0
@@ -48,7 +48,7 @@ abbrev pub newly : Bool → ℕ → ℕ → List Named
 newly true place at = record { place = place; at = at } ∷ []
 newly false place at = []
 
--- one more record of the shard came, which is named or not
+-- one more record of the shard arrived, which is named or not
 abbrev pub IsGrown : Bool → ℕ → Option Row → Row → Type 0
 IsGrown is_named at old row = (row.came ≡ came_in old + 1) × (row.named.items ≡ named_in old ++ newly is_named (came_in old) at)
 

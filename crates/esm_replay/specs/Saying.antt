@@ -2,6 +2,6 @@
 use Rattle.std.specs.Prelude.{ℕ, ◌<◌, ◌^◌, length}
 use Rattle.esm_model.specs.Setting.{Setting, records_of}
 
--- a place of a record has four bytes
+-- every shard has fewer than 2^32 records, since a payload has four bytes for a place
 abbrev pub HaveFewRecords : Setting → Type 0
 HaveFewRecords s = (n : ℕ) → length (records_of s n) < 2 ^ 32

@@ -1,4 +1,4 @@
-// The records of the next call: the longest front of a piece that one event may have.
+// The records of the next call: the longest prefix of a piece that is within the limits of a batch and of an event.
 ghost use Rattle.std.specs.Prelude.{◌≡◌, ℕ, ◌≤◌, [], All, IfOk, length, take};
 ghost use Rattle.esm_model.specs.Batches.{longest};
 ghost use Rattle.esm_model.specs.Valid.{IsValidRecord, IsStreamConfig};
@@ -12,10 +12,10 @@ use esm_event::stream_bytes;
 use esm_model::{Config, MAX_EVENT, OutOfMemory, Places, Record};
 use std::alloc::{AllocError, Global};
 
-/// The bytes of an event without records: `{"Records":[` and `]}`.
+/// The length in bytes of an event without records: `{"Records":[` and `]}`.
 const FRAME_BYTES: u64 = 14;
 
-/// The records of the next call, of a shard, with their places.
+/// The next call: its shard, and its records with their places.
 #[derive(Drop, Debug)]
 pub struct Batch {
     pub shard: u64,
@@ -23,8 +23,8 @@ pub struct Batch {
     pub records: BatchRecords,
 }
 
-/// How many of the named records one call takes, the first ones: at most the batch size, with an event of at most 6,291,456
-/// bytes. One always is. Takes no memory.
+/// How many of the named records the next call takes, from the first on: at most the batch size, with an event of at most
+/// 6,291,456 bytes, but always one if there is one. Takes no memory.
 pub(crate) fn call_length(config: &Config, records: &[Record], named: &[Named]) -> usize
     requires config { IsStreamConfig config.now }
     requires valid { All IsValidRecord records.now }
@@ -58,7 +58,7 @@ fn places_in(alloc: Global, named: &[Named]) -> Result<Vec<u32>, AllocError>
     named.iter().map(|one| one.place).collect(alloc)
 }
 
-/// The next call of a piece of these records of the shard.
+/// The next call of a piece with these named records of the shard.
 pub(crate) fn batch_of(
     alloc: Global,
     config: &Config,

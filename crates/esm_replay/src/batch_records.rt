@@ -1,4 +1,4 @@
-// The records of a call: where they stand among the records that came, or copies of them.
+// The records of a call: their positions among the records that arrived, or copies of them.
 ghost use Rattle.std.specs.Prelude.{◌≡◌, ◌+◌, ◌<◌, ◌≤◌, map, IfOk, IfSome, Some, length, option_copied};
 ghost use Rattle.esm_model.specs.Records.{Record};
 ghost use Rattle.esm_replay.specs.Batch.{record_named, records_named, records_in, AreWithin, IsRowWithin, StandInRow};
@@ -8,16 +8,16 @@ use esm_journal_record::{GatheredTexts, KeptTexts};
 use esm_model::{OutOfMemory, Record};
 use std::alloc::Global;
 
-/// The records of a call, of records that came.
+/// The records of a call, taken from the records that arrived.
 #[derive(Drop, Debug)]
 pub enum BatchRecords {
-    /// They stand in a row, from this one on.
+    /// They follow each other there, from this position on.
     InRow(u32),
     /// Copies of them.
     Copied(Vec<Record>),
 }
 
-/// The record that the named one at the position is, among those that came.
+/// The record that the named one at this index stands for, if it is among those that arrived.
 fn found_named<'a>(records: &'a [Record], named: &[Named], i: usize) -> Option<&'a Record>
     ensures { option_copied result ≡ record_named records.entry.now named.now i }
 {
@@ -25,7 +25,7 @@ fn found_named<'a>(records: &'a [Record], named: &[Named], i: usize) -> Option<&
     records.get(one.at as usize)
 }
 
-/// The record that the named one at the position is, where each is among those that came.
+/// The same, where each named record is among those that arrived.
 pub(crate) fn record_named<'a>(records: &'a [Record], named: &[Named], i: usize) -> &'a Record
     requires within { i < length named.now }
     requires stand { AreWithin (length records.now) named.now }
@@ -37,7 +37,7 @@ pub(crate) fn record_named<'a>(records: &'a [Record], named: &[Named], i: usize)
     }
 }
 
-/// Where the row begins in which the named records stand among those that came, if they stand in one.
+/// The position of the first named record, if the named records follow each other among those that arrived.
 fn row_start(named: &[Named]) -> Option<u32>
     ensures row { IfSome result (λ first. StandInRow first named.now) }
     ensures some { IfSome result (λ first. 1 ≤ length named.now) }
@@ -64,7 +64,7 @@ fn copies(alloc: Global, records: &[Record], named: &[Named]) -> Result<Vec<Reco
     Ok(copies)
 }
 
-/// The named records: copied only where they do not stand in a row.
+/// The named records; they are copied only if they do not follow each other.
 pub(crate) fn gather(
     alloc: Global,
     records: &[Record],
@@ -83,10 +83,10 @@ pub(crate) fn gather(
     }
 }
 
-/// The bytes of a sequence number for which room is made: those of Kinesis have 56.
+/// For how many bytes of a sequence number room is made: those of Kinesis have 56.
 const NUMBER_ROOM: usize = 56;
 
-/// Copies of the sequence numbers of the records, in one text.
+/// Returns copies of the sequence numbers of the records, in one text.
 pub fn names_of(alloc: Global, records: &[Record]) -> Result<KeptTexts, OutOfMemory>
     ensures { IfOk result (λ names. names ≡ map (λ (r : Record). r.seq) records.now) }
 {
@@ -98,7 +98,7 @@ pub fn names_of(alloc: Global, records: &[Record]) -> Result<KeptTexts, OutOfMem
     names.into_texts(alloc)
 }
 
-/// Copies of the records, which share their texts.
+/// Copies of the records that share their texts.
 fn shares_of(alloc: Global, records: &[Record]) -> Result<Vec<Record>, OutOfMemory>
     ensures { IfOk result (λ shares. shares.items ≡ records.now) }
 {
@@ -119,7 +119,7 @@ fn row_of(records: &[Record], first: u32, count: usize) -> &[Record]
 }
 
 impl BatchRecords {
-    /// The records, so many, of those that came, as copies that share their texts.
+    /// Returns the `count` records, taken from those that arrived, as copies that share their texts.
     pub fn into_records(
         self,
         alloc: Global,

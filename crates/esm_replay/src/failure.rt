@@ -1,4 +1,4 @@
-// The records that a line of a failure file names.
+// Reading which records a line of a failure file names.
 ghost use Rattle.std.specs.Prelude.{◌≡◌, codes, IfOk, Some, option_and_then, option_copied};
 ghost use Rattle.serde_json.specs.View.{view};
 ghost use Rattle.esm_replay_model.specs.ReplaySetting.{is_up_to};
@@ -17,7 +17,7 @@ fn shard_in(info: &Value) -> Option<u64>
     shard_number(info.get("shardId")?.as_str()?.as_bytes())
 }
 
-/// The sequence number that the text is, where it is one.
+/// The sequence number that the text is, if it is one.
 fn sequence_of(alloc: Global, text: Option<&str>) -> Result<Option<Seq>, OutOfMemory>
     ensures { IfOk result (λ seq. seq ≡ option_and_then sequence_number (option_copied text.entry)) }
 {
@@ -49,7 +49,7 @@ fn is_up_to(first: &Seq, last: &Seq) -> bool
     first.order(last).is_le()
 }
 
-/// The range from the one number to the other, unless the first is after the last.
+/// The range from the one number to the other; `None` if the first is greater.
 fn range_between(shard: u64, first: Seq, last: Seq) -> Option<Range>
     ensures { result ≡ range_between (Some shard) (Some first) (Some last) }
 {
@@ -60,7 +60,7 @@ fn range_between(shard: u64, first: Seq, last: Seq) -> Option<Range>
     }
 }
 
-/// The range that a line's `KinesisBatchInfo` gives.
+/// The range that a line's `KinesisBatchInfo` names, if it is complete.
 fn range_in(alloc: Global, info: &Value) -> Result<Option<Range>, OutOfMemory>
     ensures { IfOk result (λ range. range ≡ range_in (view info.now)) }
 {
@@ -76,7 +76,7 @@ fn range_in(alloc: Global, info: &Value) -> Result<Option<Range>, OutOfMemory>
     Ok(range_between(shard, first, last))
 }
 
-/// The records that a line of a failure file names; `None` exactly where the line does not read as a JSON object whose
+/// Reads which records a line of a failure file names. `None` if and only if the line is not a JSON object whose
 /// `KinesisBatchInfo` has a shard id and two sequence numbers, the first not after the last (Lambda Developer Guide,
 /// "Retaining discarded batch records").
 pub fn read_failure(alloc: Global, line: &[u8]) -> Result<Option<Range>, OutOfMemory>

@@ -1,4 +1,4 @@
-// The pieces that a replay begins with: of each shard its named records.
+// The pieces that a replay begins with: one for each shard, with its named records.
 ghost use Rattle.std.specs.Prelude.{◌≡◌, ℕ, ◌<◌, ◌^◌, [], List, All, IfOk, length};
 ghost use Rattle.esm_model.specs.declared.config.Config.{Config};
 ghost use Rattle.esm_journal_state.specs.SaidLists.{SaidLists};
@@ -25,8 +25,8 @@ fn pieces_in(alloc: Global, rows: &BTreeMap<u64, Row>) -> Result<Waiting, OutOfM
     Ok(waiting)
 }
 
-/// What is to be called first, where these records came and these of them are named: linear in the records, but for the
-/// logarithm of the shards.
+/// Returns what is to be called first, where these records arrived and those flagged in `named` are named. The time is
+/// linear in the records, times the logarithm of the number of shards.
 pub fn first_waiting(
     alloc: Global,
     records: &[Record],

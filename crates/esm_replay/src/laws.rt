@@ -1,5 +1,5 @@
-//! What holds of every run of a replay over the records of a stream, and of these records, each as the contract of a function
-//! that does nothing. A history is written newest entry first.
+//! Laws of every run of a replay over the records of a stream, and of these records, as contracts of functions that do
+//! nothing. A history is written newest entry first.
 ghost use Rattle.std.specs.Prelude.{◌≡◌, List, [], None};
 ghost use Rattle.esm_model.specs.declared.entry.Entry.{Entry};
 ghost use Rattle.esm_journal_record.specs.EntryPayload.{AllMayBeSaid};
@@ -11,12 +11,12 @@ ghost use Rattle.esm_journal_state.specs.SaidLists.{SaidLists};
 ghost use Rattle.esm_replay.specs.Coming.{first_change, NoneDiffers};
 ghost use Rattle.esm_replay.specs.Saying.{HaveFewRecords};
 
-/// Each `Replayed` of a run may be said by a payload of the journal.
+/// Every `Replayed` of a run has a payload that the journal accepts.
 pub fn replayed_may_be_said()
     ensures { (s : ReplaySetting) (h : List Entry) → AreWithinBounds s.base → HaveFewRecords s.base → IsReplay s h → AllMayBeSaid s.base h }
 {}
 
-/// Where no record of a list differs from what was kept, none differs at its place of its shard.
+/// If no record of a list differs from what was kept, none differs at its place of its shard.
 pub fn unchanged_as_kept()
     ensures { (told : SaidLists) (rs : List Record) → first_change told [] rs ≡ None → NoneDiffers told rs }
 {}

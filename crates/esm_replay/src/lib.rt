@@ -1,6 +1,6 @@
-//! What a replay reads of the failure file, and what waits to be called again: the records that each line names, the pieces
-//! of named records, the next call, and what the end of a call leaves.
-//! Pure: values in, values out. No device, clock or thread.
+//! What a replay reads of the failure file, and what waits to be called again: the records that each line names, the
+//! pieces of named records, the next call, and what the end of a call leaves. Values in, values out: no device, clock or
+//! thread.
 #![tactic(auto)]
 
 mod batch;

@@ -1,4 +1,4 @@
-// Whether a record is named by a failure line, was given up and was not replayed.
+// Whether a failure line names a record that was given up and not yet replayed.
 ghost use Rattle.std.specs.Prelude.{◌≡◌};
 ghost use Rattle.esm_journal_state.specs.Meaning.{is_failure};
 ghost use Rattle.esm_replay.specs.Records.{names_by};
@@ -16,8 +16,8 @@ fn is_failure(fate: Fate) -> bool
     }
 }
 
-/// Whether the record is named, where it stands at the place of its shard and the journal tells this fate of the place.
-/// Takes no memory.
+/// Whether the record is named, if this is its place in its shard and the journal gives the place this fate. Takes no
+/// memory.
 pub fn names(said: &Says, ranges: &Ranges, item: &Record, place: u32, fate: Fate) -> bool
     ensures { result ≡ names_by fate said.now ranges.now item.now place }
 {
@@ -25,8 +25,8 @@ pub fn names(said: &Says, ranges: &Ranges, item: &Record, place: u32, fate: Fate
     names_near(said, ranges, &mut near, item, place, fate)
 }
 
-/// The same, where a list of records is asked for in turn: the range at `near` is looked at first, as `Ranges::hold_near`
-/// does. Takes no memory.
+/// The same, for asking about many records in turn: the range at `near` is tried first, as in `Ranges::hold_near`. Takes
+/// no memory.
 pub fn names_near(
     said: &Says,
     ranges: &Ranges,

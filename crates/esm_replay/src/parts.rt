@@ -7,7 +7,7 @@ use crate::rows::Named;
 use esm_model::{OutOfMemory, Rest, Verdict};
 use std::alloc::Global;
 
-/// The two pieces that the records of a call that remain are split into; one without records is no piece.
+/// The two pieces into which the remaining records of a call are split; a part without records is no piece.
 #[derive(Drop)]
 pub struct Parts {
     pub(crate) first: Piece,
@@ -32,7 +32,7 @@ fn split_rest(rest: Rest, remaining: &[Named]) -> &[Named]
     }
 }
 
-/// The parts of what remains of a call of these records of the shard after its verdict.
+/// The parts into which the verdict splits what remains of a call of these records of the shard.
 pub(crate) fn parts_of(
     alloc: Global,
     shard: u64,

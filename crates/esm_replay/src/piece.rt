@@ -1,4 +1,4 @@
-// A piece of named records of a shard, whose front is taken away without moving the others.
+// A piece of named records of a shard; records are removed from its front without moving the others.
 ghost use Rattle.std.specs.Prelude.{◌≡◌, ◌≤◌, ◌==◌, IfOk, length, take, drop};
 
 use crate::rows::Named;
@@ -11,7 +11,7 @@ use std::marker::Model;
 pub struct Piece {
     shard: u64,
     named: Vec<Named>,
-    /// So many of them are gone.
+    /// How many of them are already removed from the front.
     start: usize,
 }
 
@@ -27,7 +27,7 @@ impl Model for Piece {
 }
 
 impl Piece {
-    /// A copy of the records as a piece.
+    /// A piece with a copy of these records.
     pub(crate) fn of(alloc: Global, shard: u64, named: &[Named]) -> Result<Piece, OutOfMemory>
         ensures { IfOk result (λ piece. piece ≡ record { shard = shard; named = named.now }) }
     {
@@ -50,7 +50,7 @@ impl Piece {
         &self.named[self.start..]
     }
 
-    /// Without its first records. Takes no memory.
+    /// The piece without its first `count` records. Takes no memory.
     pub(crate) fn without_front(self, count: usize) -> Piece
         requires { count ≤ length self.named }
         ensures { result ≡ record { shard = self.shard; named = drop count self.named } }

@@ -1,4 +1,4 @@
-// Ranges of sequence numbers, by which a record is found in the logarithm of their number.
+// Ranges of sequence numbers, which find a record in logarithmic time.
 ghost use Rattle.std.specs.Prelude.{◌≡◌, ◌≤◌, ◌==◌, ◌&&◌, not, List, None, IfOk, length, true, false, option_copied};
 ghost use Rattle.std.specs.List.Sorted.{IsPermutation, IsSortedBy, IsPartitionPoint};
 ghost use Rattle.esm_replay_model.specs.declared.range.Range.{Range};
@@ -12,13 +12,13 @@ use std::cmp::Ordering;
 use std::marker::Model;
 use std::snapshot::Snapshot;
 
-/// Ranges of sequence numbers, seen as the list that they were made of.
-/// They stand by their starts, and each reaches as far as those before it in its shard, so the last one that starts at a
-/// record or before it tells whether any holds the record.
+/// Ranges of sequence numbers; contracts see the list that they were made from. They are ordered by their starts, and
+/// each extends as far as those before it in its shard. So the last one that starts at a record or before it decides
+/// whether any range holds the record.
 #[derive(Drop)]
 pub struct Ranges {
     ranges: Vec<Range>,
-    /// The list that they were made of, for the contracts alone.
+    /// The list that they were made from, for the contracts alone.
     given: Snapshot<Vec<Range>>,
 }
 
@@ -49,14 +49,14 @@ fn sort(ranges: &mut Vec<Range>)
     ranges.sort_unstable_by(|a, b| order(a, b.shard, b.first.digits()));
 }
 
-/// Whether the range ends before the one before it in its shard does.
+/// Whether the range ends before the one ahead of it in the same shard does.
 fn falls_short(before: &Range, range: &Range) -> bool
     ensures { result ≡ ((before.now.shard == range.now.shard) && not (is_up_to before.now.last range.now.last)) }
 {
     before.shard == range.shard && !before.last.order(&range.last).is_le()
 }
 
-/// The range, so that it reaches as far as the one before it in its shard.
+/// The range, extended as far as the one before it in its shard.
 fn reaching(alloc: Global, before: Option<&Range>, range: Range) -> Result<Range, OutOfMemory>
     ensures { IfOk result (λ r. r ≡ reaching (option_copied before.entry) range) }
 {
@@ -82,7 +82,7 @@ fn last_of(ranges: &[Range]) -> Option<&Range>
     ranges.last()
 }
 
-/// The ranges, each so that it reaches as far as the one before it in its shard.
+/// The ranges, each extended as far as the one before it in its shard.
 fn all_reaching(alloc: Global, ranges: Vec<Range>) -> Result<Vec<Range>, OutOfMemory>
     ensures { IfOk result (λ v. v.items ≡ all_reaching None ranges.items) }
 {
@@ -94,7 +94,7 @@ fn all_reaching(alloc: Global, ranges: Vec<Range>) -> Result<Vec<Range>, OutOfMe
     Ok(all)
 }
 
-/// The number of ranges that start at the number of the shard or before it, by binary search.
+/// The number of ranges that start at this number of the shard or before it, by binary search.
 fn started_by(ranges: &[Range], shard: u64, number: &[u8]) -> usize
     requires lead { AllLead ranges.now }
     ensures bound { result ≤ length ranges.now }
@@ -104,7 +104,7 @@ fn started_by(ranges: &[Range], shard: u64, number: &[u8]) -> usize
     ranges.partition_point(|range| !order(range, shard, number).is_gt())
 }
 
-/// Whether the range holds the number of the shard.
+/// Whether the range holds this number of the shard.
 fn holds(range: &Range, shard: u64, number: &[u8]) -> bool
     ensures { result ≡ is_in_range shard number.now range.now }
 {
@@ -113,7 +113,7 @@ fn holds(range: &Range, shard: u64, number: &[u8]) -> bool
             && number_order(number, range.last.digits()).is_le())
 }
 
-/// Whether there is a range at the place which holds the number of the shard.
+/// Whether there is a range at this index, and it holds the number of the shard.
 fn holds_at(ranges: &[Range], place: usize, shard: u64, number: &[u8]) -> bool
     ensures { result ≡ true → is_in_ranges ranges.now shard number.now ≡ true }
 {
@@ -131,7 +131,7 @@ fn reaches(range: &Range, shard: u64, number: &[u8]) -> bool
 }
 
 impl Ranges {
-    /// An index of the ranges, made in the time of sorting them.
+    /// Makes an index of the ranges, in the time of sorting them.
     pub fn new(alloc: Global, ranges: Vec<Range>) -> Result<Ranges, OutOfMemory>
         ensures { IfOk result (λ index. index ≡ ranges.items) }
     {
@@ -145,7 +145,7 @@ impl Ranges {
         })
     }
 
-    /// Whether a range holds the sequence number of the shard, found in the logarithm of the ranges. Takes no memory.
+    /// Whether a range holds this sequence number of the shard, in time logarithmic in the ranges. Takes no memory.
     pub fn hold(&self, shard: u64, number: &[u8]) -> bool
         ensures { result ≡ is_in_ranges self.now shard number.now }
     {
@@ -153,8 +153,9 @@ impl Ranges {
         self.hold_near(&mut near, shard, number)
     }
 
-    /// The same, where a list of records is asked for in turn: the range at `near` is looked at first, and where that does
-    /// not hold the number, `near` is the range at which the search ended. Any `near` will do. Takes no memory.
+    /// The same, for asking about many records in turn: the range at index `near` is tried first. If it does not hold the
+    /// number, `near` is set to the range at which the search ended, if there is one. Any `near` is allowed. Takes no
+    /// memory.
     pub fn hold_near(&self, near: &mut usize, shard: u64, number: &[u8]) -> bool
         ensures { result ≡ is_in_ranges self.now shard number.now }
     {

@@ -1,4 +1,4 @@
-// The named records of each shard, gathered from the records in the order in which they came.
+// Gathering the named records of each shard from the records in the order in which they arrived.
 ghost use Rattle.std.specs.Prelude.{◌≡◌, ℕ, ◌==◌, ◌<◌, ◌^◌, [], List, false, IfOk, OnOk, None, Some, length, get_or};
 ghost use Rattle.std.specs.Ordering.{nat_cmp};
 ghost use Rattle.std.specs.BTreeMap.{get};
@@ -12,21 +12,21 @@ use esm_model::{OutOfMemory, Record};
 use std::alloc::Global;
 use std::collections::BTreeMap;
 
-/// A named record: its place in its shard, and where it stands among the records that came.
+/// A named record: its place in its shard, and its position among the records that arrived, both counted from 0.
 #[derive(Clone, Copy, Debug)]
 pub struct Named {
     pub place: u32,
     pub at: u32,
 }
 
-/// How many records of a shard came, and those of them that are named, by place.
+/// How many records of a shard arrived, and the named ones of them by place.
 #[derive(Drop, Debug)]
 pub struct Row {
     pub came: u32,
     pub named: Vec<Named>,
 }
 
-/// One more record of the row's shard, which is named or not and stands at `at` among all.
+/// Adds one more record of the row's shard, named or not, which is at position `at` among all.
 fn grow(row: &mut Row, is_named: bool, at: u32) -> Result<(), OutOfMemory>
     requires { row.old.came < u32.MAX }
     ensures { OnOk result (IsGrown is_named at (Some row.old) row.new) }
@@ -39,7 +39,7 @@ fn grow(row: &mut Row, is_named: bool, at: u32) -> Result<(), OutOfMemory>
     Ok(())
 }
 
-/// The row of a shard's first record, which is named or not and stands at `at` among all.
+/// The row after a shard's first record, named or not, which is at position `at` among all.
 fn first_row(alloc: Global, is_named: bool, at: u32) -> Result<Row, OutOfMemory>
     ensures { IfOk result (IsGrown is_named at None) }
 {
@@ -51,8 +51,8 @@ fn first_row(alloc: Global, is_named: bool, at: u32) -> Result<Row, OutOfMemory>
     Ok(row)
 }
 
-/// One more record comes of the shard, which is named or not and stands at `at` among all. A shard that has a row is looked
-/// up once, and its row stays where it is.
+/// Adds one more record of the shard, named or not, which is at position `at` among all. The row of a shard that has one
+/// is looked up once and changed where it is.
 fn add(
     alloc: Global,
     rows: &mut BTreeMap<u64, Row>,
@@ -72,7 +72,7 @@ fn add(
     Ok(())
 }
 
-/// Whether the record that stands there is named.
+/// Whether the record at this position is named.
 fn named_at(named: &[bool], i: usize) -> bool
     requires { i < length named.now }
     ensures { result ≡ get_or named.now i result }
@@ -80,7 +80,7 @@ fn named_at(named: &[bool], i: usize) -> bool
     named[i]
 }
 
-/// The rows of all records, by shard, where these of them are named.
+/// The rows of all shards, from these records and the flags that say which of them are named.
 pub(crate) fn rows_of(
     alloc: Global,
     records: &[Record],

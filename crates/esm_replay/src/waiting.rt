@@ -15,7 +15,7 @@ use std::alloc::Global;
 use std::collections::VecDeque;
 use std::marker::Model;
 
-/// The pieces that are still to be called, the next first; each has a record.
+/// The pieces that are still to be called, the next first; each has at least one record.
 #[derive(Drop)]
 pub struct Waiting {
     pieces: VecDeque<Piece>,
@@ -33,7 +33,7 @@ impl Model for Waiting {
     ghost invariant = { λ w. All HasNamed w.pieces.items };
 }
 
-/// The piece before the others, where it has a record.
+/// Puts the piece ahead of the others, if it has a record.
 fn put(pieces: &mut VecDeque<Piece>, piece: Piece)
     requires { deque_len pieces.old < deque_capacity pieces.old }
     ensures items { pieces.new.items ≡ put_ahead piece.shard piece.named pieces.old.items }
@@ -45,7 +45,7 @@ fn put(pieces: &mut VecDeque<Piece>, piece: Piece)
     }
 }
 
-/// The first piece without its first records.
+/// Removes the first `count` records of the first piece.
 fn drop_first(pieces: &mut VecDeque<Piece>, count: usize)
     requires { count ≤ length (front_of pieces.old.items) }
     ensures items { pieces.new.items ≡ without_front count pieces.old.items }
@@ -66,7 +66,7 @@ impl Waiting {
         }
     }
 
-    /// The piece behind the others, where it has a record.
+    /// Adds the piece behind the others, if it has a record.
     pub(crate) fn add_last(&mut self, piece: Piece) -> Result<(), OutOfMemory>
         ensures { OnOk result (self.new.pieces ≡ self.old.pieces ++ put_ahead piece.shard piece.named []) }
     {
@@ -86,7 +86,7 @@ impl Waiting {
         self.pieces.front()
     }
 
-    /// Room for what the end of a call splits.
+    /// Reserves room for the parts that the end of a call may leave.
     pub fn reserve(&mut self) -> Result<(), OutOfMemory>
         ensures pieces { self.new.pieces ≡ self.old.pieces }
         ensures room { self.old.room ≤ self.new.room }
@@ -96,8 +96,8 @@ impl Waiting {
         Ok(())
     }
 
-    /// The next call: the longest front of the first piece that meets the batch size and the length of an event; `None`
-    /// exactly where nothing waits.
+    /// Returns the next call: the longest prefix of the first piece within the batch size and the length of an event.
+    /// `None` if and only if nothing waits. `OutOfMemory`: an allocation failed.
     pub fn next_batch(
         &self,
         alloc: Global,
@@ -120,7 +120,8 @@ impl Waiting {
         }
     }
 
-    /// The parts of what remains of a call of the first records of the first piece after the verdict.
+    /// Returns the parts into which the verdict splits what remains of a call of the first `count` records of the first
+    /// piece.
     pub fn parts(&self, alloc: Global, count: u32, verdict: Verdict) -> Result<Parts, OutOfMemory>
         requires some { 1 ≤ length self.now.pieces }
         requires within { count ≤ length (front_of self.now.pieces) }
@@ -138,7 +139,7 @@ impl Waiting {
         }
     }
 
-    /// The end of a call of the first records of the first piece, of which these parts remain. Takes no memory.
+    /// Ends a call of the first `count` records of the first piece, of which these parts remain. Takes no memory.
     pub fn end_call(&mut self, count: u32, parts: Parts)
         requires room { 2 ≤ self.old.room }
         requires within { count ≤ length (front_of self.old.pieces) }

@@ -16,8 +16,8 @@ use Rattle.esm_replay_core.specs.View.{ReplayView, setting_of, IsJobOut}
 use Rattle.esm_replay.specs.Coming.{first_change}
 use Rattle.esm_replay_book.specs.Books.{BookState, payloads_in, LeavesFirst}
 
--- These entries, oldest first, were added to the history, over these records that came, and their payloads to the journal.
--- What the book was opened with stays.
+-- These entries, oldest first, were added to the history, and their payloads to the journal; these records have arrived.
+-- What the book was opened with is unchanged.
 pub record Added {D : Type 0} (records : List Record) (old new : BookState D) (es : List Entry) : Type 0 where
   pub past : new.core.past ≡ reverse es ++ old.core.past
   pub records_are : new.core.records ≡ records
@@ -25,7 +25,7 @@ pub record Added {D : Type 0} (records : List Record) (old new : BookState D) (e
   pub payloads : new.pair.payloads ≡ old.pair.payloads ++ payloads_in (setting_of new.core) es
   pub found : new.found ≡ old.found
 
--- All that a call was to add was added. Where it added no entry, and no record came, no disk was called.
+-- Everything that a call was to add was added. If it added no entry, and no record arrived, no disk was called.
 pub record AddedAll {D : Type 0} (m : DiskMeaning D) (records : List Record) (old new : BookState D) (es : List Entry) : Type 0 where
   pub added : Added records old new es
   pub settled : new.core.owed ≡ []
@@ -35,8 +35,8 @@ pub record AddedAll {D : Type 0} (m : DiskMeaning D) (records : List Record) (ol
   pub kept : PairKeepsWhileUp m new.pair
   pub up : new.pair.down ≡ false
 
--- A disk failed before all of it was added: the rest is owed. The first of the rest was being written: its payload may stand
--- on the disk.
+-- A disk failed before all of it was added: the rest is owed. The first of the rest was being written, so its payload may
+-- be on the disk.
 pub record AddedSome {D : Type 0} (m : DiskMeaning D) (records : List Record) (old new : BookState D) (es : List Entry) : Type 0 where
   pub front : List Entry
   pub rest : List Entry
@@ -48,20 +48,20 @@ pub record AddedSome {D : Type 0} (m : DiskMeaning D) (records : List Record) (o
   pub trouble : new.trouble ≡ Some Disk
   pub images : LeavesFirst m old.pair new.pair (payloads_in (setting_of new.core) (front ++ take 1 rest))
 
--- of the records that come, the first that was kept otherwise differs so
+-- the first of the arriving records that the journal kept with another text differs so
 abbrev pub IsFirstChange : ReplayView → List Record → Change → Type 0
 IsFirstChange v items change = first_change v.opened.said v.records items ≡ Some change
 
--- the job is the call that is out, with the text of its event
+-- the job is the running call, with the text of its event
 pub record IsJob (s : ReplaySetting) (h : List Entry) (job : Job) : Type 0 where
   pub out : IsJobOut h job
   pub event : job.event ≡ replay_event s (call_out h)
 
--- a call that is answered is out
+-- a call that `next` returned is running
 abbrev pub RunsCall : ReplaySetting → List Entry → ReplayNext → Type 0
 RunsCall s h (next.Call job) = IsJob s h job
 RunsCall s h _ = Unit {0}
 
--- nothing changed but that there may be memory for more payloads
+-- nothing changed, except that there may be memory for more payloads
 abbrev pub IsSame : {D : Type 0} → BookState D → BookState D → Type 0
 IsSame old new = new ≡ record old { pair = record old.pair { room = new.pair.room } }

@@ -19,19 +19,19 @@ use Rattle.esm_replay_book.specs.Books.{BookState}
 use Rattle.esm_replay_book.specs.Calls.{AddedAll, AddedSome, IsSame}
 use Rattle.esm_replay_book.specs.Keeping.{IsSound}
 
--- the records that came, after it
+-- the records that have arrived, after the call
 abbrev pub records_after : ReplayView → ReplayCall → List Record
 records_after v (call.Came items) = v.records ++ items.items
 records_after v (call.Next moment) = v.records
 records_after v (call.Done job reply moment) = v.records
 
--- the entries that it decides, oldest first
+-- the entries that the call decides, oldest first
 abbrev pub entries_by : ReplayView → ReplayCall → List Entry
 entries_by v (call.Came items) = []
 entries_by v (call.Next moment) = next_entries (next_of (setting_of v) v.past) (moment_for v.past moment)
 entries_by v (call.Done job reply moment) = done_entries (setting_of v) v.past job.lane reply (moment_for v.past moment)
 
--- it is answered so
+-- the answer to the call
 abbrev pub IsAnswer : ReplayView → ReplayCall → ReplayAnswer → Type 0
 IsAnswer v (call.Came items) answer.Taken = Unit {0}
 IsAnswer v (call.Next moment) (answer.Next next) = next ≡ next_of (setting_of v) v.past
@@ -45,27 +45,27 @@ IsDone _ = ⊥
 
 -- how a call ends
 
--- it is carried out whole
+-- the call was carried out whole
 pub record CarriedAll {D : Type 0} (m : DiskMeaning D) (old new : BookState D) (asked : ReplayCall) (given : ReplayAnswer) : Type 0 where
   pub added : AddedAll m (records_after old.core asked) old new (entries_by old.core asked)
   pub answer_is : IsAnswer old.core asked given
   pub no_change : (change : Change) → Refuses old.core asked change → ⊥
   pub sound : IsSound new
 
--- a disk failed in it
+-- a disk failed during the call
 pub record CarriedSome {D : Type 0} (m : DiskMeaning D) (old new : BookState D) (asked : ReplayCall) : Type 0 where
   pub is_done : IsDone asked
   pub added : AddedSome m old.core.records old new (entries_by old.core asked)
   pub cause : Rose (m.faults old.pair.used) (m.faults new.pair.used)
   pub sound : IsSound new
 
--- it brought a change
+-- an arriving record differs from what was kept
 pub record FoundChange {D : Type 0} (old new : BookState D) (asked : ReplayCall) (change : Change) : Type 0 where
   pub refuses : Refuses old.core asked change
   pub rest : new ≡ record old { trouble = Some (trouble.Changed change) }
   pub sound : IsSound new
 
--- there was no memory for it
+-- an allocation failed
 pub record CarriedNone {D : Type 0} (old new : BookState D) : Type 0 where
   pub same : IsSame old new
   pub sound : IsSound new

@@ -17,7 +17,7 @@ use Rattle.esm_replay.specs.Coming.{first_change}
 use Rattle.esm_replay_core.specs.Told.{IsChange}
 use Rattle.esm_replay_book.specs.Books.{BookState, payloads_in}
 
--- where a record was kept with another text no call was made
+-- if a record was kept with another text, no call was made
 abbrev pub IsUncalled : Option Trouble → List Entry → Type 0
 IsUncalled None h = Unit {0}
 IsUncalled (Some Disk) h = Unit {0}
@@ -29,10 +29,11 @@ pub record OwesReplay (s : ReplaySetting) (h owed : List Entry) : Type 0 where
   pub some : 1 ≤ length (owed_replay s h).places
   pub is : owed ≡ Replayed (owed_replay s h).shard (owed_replay s h).places (last_moment h) ∷ []
 
--- The history is a run of the replay over the records that came, of which none was kept with another text; it stays one with
--- the entries that are owed, so that the first of them, which may be on the disk, may follow it. What the journal has of all
--- this may be said. Where the book is not down nothing is owed, also of what succeeded in the last call; where it is down no call
--- is out, and where a disk failed the `Replayed` of what succeeded in the last call is owed.
+-- The history is a run of the replay over the records that arrived, none of which was kept with another text. It remains
+-- a run with the entries that are owed, so the first of them, which may be on the disk, may follow it. The journal
+-- accepts the payloads of all this. If the book is not down, nothing is owed and everything that succeeded in the last
+-- call is replayed. If it is down, no call is running. If a disk failed, the `Replayed` of what succeeded in the last
+-- call is owed.
 pub record IsSound {D : Type 0} (b : BookState D) : Type 0 where
   pub run : IsReplay (setting_of b.core) b.core.past
   pub ahead : RunAhead b.core
@@ -46,15 +47,15 @@ pub record IsSound {D : Type 0} (b : BookState D) : Type 0 where
   pub owes : b.trouble ≡ Some Disk → OwesReplay (setting_of b.core) b.core.past b.core.owed
   pub uncalled : IsUncalled b.trouble b.core.past
 
--- why a book is down: a disk failed since the opening, or a record was kept with another text than it came with
+-- why a book is down: a disk failed since the opening, or a record arrived with another text than was kept
 abbrev pub IsCause : Type 0 → Opened → Option Trouble → Type 0
 IsCause disk_failed o None = Unit {0}
 IsCause disk_failed o (Some Disk) = disk_failed
 IsCause disk_failed o (Some Dest) = ⊥
 IsCause disk_failed o (Some (Changed change)) = IsChange o change
 
--- The journal has what was found and then the payloads of the history. It is the pair that was opened, and down exactly where
--- a disk failed.
+-- The journal has what was found and then the payloads of the history. It is the pair that was opened, and it is down if
+-- and only if a disk failed.
 pub record HasJournal {D : Type 0} (m : DiskMeaning D) (b : BookState D) : Type 0 where
   pub payloads : b.pair.payloads ≡ b.found.payloads ++ payloads_in (setting_of b.core) (reverse b.core.past)
   pub down : b.pair.down ≡ is_disk b.trouble
@@ -64,6 +65,7 @@ pub record HasJournal {D : Type 0} (m : DiskMeaning D) (b : BookState D) : Type 
   pub spare : b.pair.spare ≡ b.found.spare
   pub honesty : m.honest b.pair.used ≡ m.honest b.found.used
 
--- the entries whose payloads a crash may leave: those of the history, and where a disk failed the one that was being written
+-- the entries whose payloads a crash may leave: those of the history, and if a disk failed, the one that was being
+-- written
 abbrev pub entries_left : {D : Type 0} → BookState D → List Entry
 entries_left b = reverse b.core.past ++ in_hand b.trouble b.core.owed

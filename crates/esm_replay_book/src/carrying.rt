@@ -1,4 +1,4 @@
-// One call of a replay's core over its journal, in the words of replays.
+// One call of a replay's core over its journal, with the errors that a replay can have.
 ghost use Rattle.std.specs.Prelude.{◌≡◌, [], None, false, is_some, All};
 ghost use Rattle.esm_io.specs.Meanings.{disk};
 ghost use Rattle.esm_model.specs.Valid.{IsValidRecord};
@@ -19,13 +19,13 @@ use std::alloc::Global;
 pub(crate) enum Stop {
     /// The journal's disk failed in this call.
     DiskFault,
-    /// A record came with another text than was kept of its place; nothing of the call was taken.
+    /// A record arrived with another text than was kept of its place; nothing of the call was taken.
     Changed(Change),
-    /// Want of memory; nothing has changed but room that was made.
+    /// An allocation failed; nothing has changed except reserved room.
     OutOfMemory,
 }
 
-/// What is true of the core, and of the journal where the book is not down. Does nothing.
+/// States what is true of the core, and of the journal if the book is not down. Does nothing.
 pub(crate) fn keeps<D: Disk>(durable: &Durable<ReplayCore, D, Nowhere>)
     ensures run { IsReplay (setting_of durable.now.core) durable.now.core.past }
     ensures ahead { RunAhead durable.now.core }
@@ -38,7 +38,7 @@ pub(crate) fn keeps<D: Disk>(durable: &Durable<ReplayCore, D, Nowhere>)
     durable.core().keeps();
 }
 
-/// Whether a call found trouble. Takes no memory.
+/// Whether a call failed for good. Takes no memory.
 pub(crate) fn is_down<D: Disk>(durable: &Durable<ReplayCore, D, Nowhere>) -> bool
     ensures value { result ≡ is_some durable.now.trouble }
     ensures up { result ≡ false → durable.now.trouble ≡ None }

@@ -1,4 +1,4 @@
-// What a journal's payloads say, and which records the lines of the failure file name.
+// Reading what a journal's payloads say, and which records the lines of the failure file name.
 ghost use Rattle.std.specs.Prelude.{◌≡◌, true, IfOk, IfErr, OnOk, reverse};
 ghost use Rattle.esm_model.specs.Valid.{IsStreamConfig};
 ghost use Rattle.esm_journal_state.specs.Meaning.{history, are_good};
@@ -16,9 +16,9 @@ use std::alloc::Global;
 /// Why a replay's book was not opened.
 #[derive(Clone, Copy, Debug, PartialEq, Eq)]
 pub enum ReplayOpen {
-    /// The first payload of the journal that no book could have written.
+    /// The payload with this index, counted from 0, is the first of the journal that is bad for a book.
     BadPayload(u32),
-    /// The first line of the failure file that names no records of a shard.
+    /// The line with this index, counted from 0, is the first of the failure file that names no records of a shard.
     BadLine(u32),
     OutOfMemory,
 }
@@ -34,7 +34,7 @@ impl From<OutOfMemory> for ReplayOpen {
     }
 }
 
-/// What the payloads say, the oldest first.
+/// What the payloads say; the payloads are oldest first.
 pub(crate) fn read_journal(alloc: Global, payloads: &[Bytes]) -> Result<Says, ReplayOpen>
     ensures told { IfOk result (λ said. Tells said (history (reverse payloads.now))) }
     ensures order { IfOk result (λ said. IsInOrder said) }
@@ -48,7 +48,8 @@ pub(crate) fn read_journal(alloc: Global, payloads: &[Bytes]) -> Result<Says, Re
     }
 }
 
-/// That the line with this index is bad. No memory holds so many that 32 bits do not count them.
+/// The error that names the line with this index; `OutOfMemory` if 32 bits do not count it, since no memory holds so
+/// many.
 fn bad_line(index: usize) -> ReplayOpen
     ensures { IsLineError index result }
 {
@@ -58,7 +59,7 @@ fn bad_line(index: usize) -> ReplayOpen
     }
 }
 
-/// Adds the range of one more line, where it gives one.
+/// Adds the range that one more line names. Returns whether it names one.
 fn take(alloc: Global, ranges: &mut Vec<Range>, line: &[u8]) -> Result<bool, OutOfMemory>
     ensures { IfOk result (IsTaken line.now ranges.old.items ranges.new.items) }
 {
@@ -83,7 +84,7 @@ fn read_lines(alloc: Global, lines: &[Bytes]) -> Result<Vec<Range>, ReplayOpen>
     Ok(ranges)
 }
 
-/// The ranges of the lines, by which a record is found.
+/// The ranges of the lines, as an index that finds a record.
 fn ranges_of(alloc: Global, lines: &[Bytes]) -> Result<Ranges, ReplayOpen>
     ensures given { IfOk result (λ ranges. GiveRanges lines.now ranges) }
     ensures bad { IfErr result (IsBadLines lines.now) }
@@ -92,7 +93,7 @@ fn ranges_of(alloc: Global, lines: &[Bytes]) -> Result<Ranges, ReplayOpen>
     Ok(Ranges::new(alloc, ranges)?)
 }
 
-/// The core of a book over a journal that said this, of the records that these lines name.
+/// The core of a book over a journal that said this, for the records that these lines name.
 pub(crate) fn core_over(
     alloc: Global,
     config: Config,

@@ -1,4 +1,4 @@
-// The book of a replay: records that come, calls of those that are named, and replays kept in a journal.
+// The book of a replay: records that arrive, calls of those that are named, and replays kept in a journal.
 ghost use Rattle.std.specs.Prelude.{◌≡◌, ◌↔◌, ◌<◌, ◌+◌, ◌^◌, ℕ, List, [], ◌++◌, None, Some, true, false, is_some, length, reverse};
 ghost use Rattle.std.specs.Prelude.{All, IfOk, IfErr, OnOk, IsErrOf, IsSome};
 ghost use Rattle.std.specs.Option.{option_copied};
@@ -34,8 +34,8 @@ use std::alloc::Global;
 use std::marker::Model;
 use std::snapshot::Snapshot;
 
-/// What a replay's book is made of: its history, oldest entry first, what its journal said at opening, and its journal; and why
-/// it is down, where it is.
+/// The parts of a replay's book: its history, oldest entry first, what its journal said at opening, why it is down, if it
+/// is, and its journal.
 #[derive(Drop)]
 pub struct ReplayParts<D: Disk> {
     pub history: Vec<Entry>,
@@ -44,16 +44,16 @@ pub struct ReplayParts<D: Disk> {
     pub pair: Pair<D>,
 }
 
-/// The book of a replay: which records came, which of them the failure lines name, which are being called again and which
-/// succeeded, each of these in a journal of two files. After the first fault of a disk, or the first record that was kept
-/// with another text, it is down.
+/// The book of a replay: which records arrived, which of them the failure lines name, which are being called again, and
+/// which succeeded. Those that succeeded are kept in a journal of two files. After the first fault of a disk, or the
+/// first record that was kept with another text, the book is down.
 ///
-/// Moments are in milliseconds since 1970; an entry has the moment that is handed in, or that of the last entry where that
-/// is later, and at most 9999-12-31T23:59:59.999Z. Places count the records of a shard in order of arrival.
+/// Moments are in milliseconds since 1970. An entry has the moment that is passed in, or that of the last entry if it is
+/// later, and at most 9999-12-31T23:59:59.999Z. Places count the records of a shard in order of arrival, from 0.
 #[derive(Drop)]
 pub struct Replay<D: Disk> {
     durable: Durable<ReplayCore, D, Nowhere>,
-    /// How many records came.
+    /// How many records arrived.
     count: usize,
 }
 
@@ -70,10 +70,10 @@ impl<D: Disk> Model for Replay<D> {
 }
 
 impl<D: Disk> Replay<D> {
-    /// A book in which no record came, for so many calls in all, with what the journal told of and the records that the
-    /// failure lines name. `BadPayload` exactly where a payload is bad for a book, with the index of the first such one, then
-    /// `BadLine` exactly where a line gives no range, with the index of the first such one. The journal is as before, and a
-    /// refusal hands it back.
+    /// Opens a book in which no record has arrived, for `calls` calls in all, with what the journal says and the records
+    /// that the failure lines name. `BadPayload`: a payload is bad for a book; it names the first such one. `BadLine`: no
+    /// payload is bad, and a line names no range; it names the first such one. The journal is only read, and an error
+    /// gives it back.
     pub fn open(
         alloc: Global,
         config: Config,
@@ -99,8 +99,8 @@ impl<D: Disk> Replay<D> {
         }
     }
 
-    /// As `open`, over a journal of which it is known what it said, so that it is not read again: a refusal hands back both.
-    /// `BadPayload` never.
+    /// Opens a book as `open` does, over a journal whose content is already known, so it is not read again. An error
+    /// gives both back; `BadPayload` is never returned.
     pub fn open_over(
         alloc: Global,
         config: Config,
@@ -130,14 +130,14 @@ impl<D: Disk> Replay<D> {
         }
     }
 
-    /// Whether 32 bits count so many records more.
+    /// Whether 32 bits count the records with `more` of them.
     fn has_room(&self, more: usize) -> bool
         ensures { result ≡ true → length self.now.core.records + more < 2 ^ 32 }
     {
         more <= u32::MAX as usize && self.count <= u32::MAX as usize - more
     }
 
-    /// Where a call is out the book is not down. Does nothing.
+    /// States that the book is not down if a call is running. Does nothing.
     fn stands(&self, job: &Job)
         requires { IsJobOut self.now.core.past job.now }
         ensures { self.now.trouble ≡ None }
@@ -146,14 +146,15 @@ impl<D: Disk> Replay<D> {
         let _ = job;
     }
 
-    /// Records come, before the first call. A list with a record that was kept with another text is refused whole, and the
-    /// first such record is told. More records than 32 bits count find no memory. No device is called for their sake.
+    /// Adds records that arrive, before the first call. If the journal kept another text of a record, the whole list is
+    /// refused, and the error reports the first such record; the book is then down. `Down`: an earlier call failed for
+    /// good. `OutOfMemory`: an allocation failed, or 32 bits do not count the records. No disk is called.
     pub fn came(&mut self, alloc: Global, items: Vec<Record>) -> Result<(), CameError>
         requires early { self.old.core.past ≡ [] }
         requires valid { All IsValidRecord items.items }
         // What is added.
         ensures added { OnOk result (AddedAll (disk D.Disk) (self.old.core.records ++ items.items) self.old self.new []) }
-        // When each error comes, and what it leaves.
+        // When each error is returned, and what it leaves.
         ensures no_fault { IsErrOf result CameError.DiskFault → ⊥ }
         ensures changed { (change : Change) → IsErrOf result (CameError.StreamChanged change) →
             (self.old.trouble ≡ None) × IsFirstChange self.old.core items.items change
@@ -181,16 +182,17 @@ impl<D: Disk> Replay<D> {
         }
     }
 
-    /// What the caller does next: `Finished` exactly where nothing is left to call, else `Spent` exactly where as many calls
-    /// began as are allowed, else the call, which begins. No call is out.
+    /// Decides what the caller does next: `Finished` if and only if nothing is left to call; otherwise `Spent` if and
+    /// only if all calls allowed were made; otherwise a call, which begins. No call is running. `Down`: an earlier call
+    /// failed for good. `OutOfMemory`: an allocation failed, and nothing has changed except reserved room.
     pub fn next(&mut self, alloc: Global, moment: u64) -> Result<ReplayNext, BookError>
         requires rests { (call_out self.old.core.past).places ≡ [] }
-        // What is answered and added.
+        // What is returned and added.
         ensures answer { IfOk result (λ next. next ≡ next_of (setting_of self.old.core) self.old.core.past) }
         ensures added { OnOk result (AddedAll (disk D.Disk) self.old.core.records self.old self.new
             (next_entries (next_of (setting_of self.old.core) self.old.core.past) (moment_for self.old.core.past moment))) }
         ensures runs { IfOk result (RunsCall (setting_of self.new.core) self.new.core.past) }
-        // When each error comes, and what it leaves.
+        // When each error is returned, and what it leaves.
         ensures no_fault { IsErrOf result BookError.DiskFault → ⊥ }
         ensures no_dest { IsErrOf result BookError.DestFault → ⊥ }
         ensures down { IsErrOf result BookError.Down ↔ IsSome self.old.trouble }
@@ -209,9 +211,10 @@ impl<D: Disk> Replay<D> {
         }
     }
 
-    /// The job's call came to this reply: its `Ended`, and then a `Replayed` of the records that succeeded, where there are
-    /// any; answers their number (Lambda Developer Guide, error handling for Kinesis, `ReportBatchItemFailures`). The job is
-    /// the call that is out, so the book is not down.
+    /// Ends the job's call with this reply: adds its `Ended`, and then a `Replayed` of the records that succeeded, if
+    /// there are any. Returns their number (Lambda Developer Guide, error handling for Kinesis,
+    /// `ReportBatchItemFailures`). The job is the running call, so the book is not down. `DiskFault`: a disk failed, and
+    /// the rest is owed. `OutOfMemory`: an allocation failed, and nothing has changed except reserved room.
     pub fn done(
         &mut self,
         alloc: Global,
@@ -220,13 +223,13 @@ impl<D: Disk> Replay<D> {
         moment: u64,
     ) -> Result<u32, BookError>
         requires out { IsJobOut self.old.core.past job }
-        // What is answered and added, and what a crash leaves.
+        // What is returned and added, and what a crash leaves.
         ensures answer { IfOk result (λ count. count ≡ done_count (setting_of self.old.core) self.old.core.past reply) }
         ensures added { OnOk result (AddedAll (disk D.Disk) self.old.core.records self.old self.new
             (done_entries (setting_of self.old.core) self.old.core.past job.lane reply (moment_for self.old.core.past moment))) }
         ensures stopped { IsErrOf result BookError.DiskFault → AddedSome (disk D.Disk) self.old.core.records self.old self.new
             (done_entries (setting_of self.old.core) self.old.core.past job.lane reply (moment_for self.old.core.past moment)) }
-        // When each error comes, and what it leaves.
+        // When each error is returned, and what it leaves.
         ensures cause { IsErrOf result BookError.DiskFault → Rose (D.faults self.old.pair.used) (D.faults self.new.pair.used) }
         ensures no_dest { IsErrOf result BookError.DestFault → ⊥ }
         ensures not_down { IsErrOf result BookError.Down → ⊥ }
@@ -247,38 +250,38 @@ impl<D: Disk> Replay<D> {
         }
     }
 
-    /// How many of the records that came are named: they were given up, a failure line names them, and no replay that the
-    /// journal told of did. Takes no memory.
+    /// How many of the records that arrived are named: they were given up, a failure line names them, and the journal
+    /// recorded no replay of them at opening. Takes no memory.
     pub fn named(&self) -> u32
         ensures { result ≡ named_count (setting_of self.now.core) }
     {
         self.durable.core().named()
     }
 
-    /// Whether a call found trouble. Takes no memory.
+    /// Whether a call failed for good. Takes no memory.
     pub fn is_down(&self) -> bool
         ensures { result ≡ is_some self.now.trouble }
     {
         is_down(&self.durable)
     }
 
-    /// The first fault or change that a call answered; `None` exactly where none did. Its clauses say what the type keeps
-    /// of any book, whoever made its calls. Takes no memory.
+    /// Returns the first fault or change that a call reported; `None` if and only if there was none. Its clauses state
+    /// the invariant of every book, whoever made its calls. Takes no memory.
     pub fn trouble(&self) -> Option<&Trouble>
         ensures value { option_copied result ≡ self.now.trouble }
         ensures cause { IsCause (Rose (D.faults self.now.found.used) (D.faults self.now.pair.used)) self.now.core.opened self.now.trouble }
         // The history, and what the journal has of it.
         ensures sound { IsSound self.now }
         ensures journal { HasJournal (disk D.Disk) self.now }
-        // What a crash leaves: of both disks since the opening, and now.
+        // What a crash leaves of both disks: at any moment since the opening, and now.
         ensures images { LeavesFirst (disk D.Disk) self.now.found self.now.pair (payloads_in (setting_of self.now.core) (entries_left self.now)) }
         ensures kept { PairKeepsWhileUp (disk D.Disk) self.now.pair }
     {
         self.durable.trouble()
     }
 
-    /// What the disks leave since a moment at which nobody had opened them yet, where each had one image then, as after a
-    /// crash or a sync. Does nothing.
+    /// States what a crash leaves of the disks since a moment before they were opened, if each had one image then, as
+    /// after a crash or a sync. Does nothing.
     pub fn since_before(&self, journal: &Snapshot<D>, spare: &Snapshot<D>)
         requires first { IsOnlyRead (disk D.Disk) journal.now.value (first_disk self.now.found) }
         requires second { IsOnlyRead (disk D.Disk) spare.now.value (second_disk self.now.found) }
@@ -291,8 +294,8 @@ impl<D: Disk> Replay<D> {
         self.durable.since_before(journal, spare);
     }
 
-    /// The history, what the journal said at opening, the first fault or change that a call answered, and the journal, as the
-    /// calls left them. Takes no memory.
+    /// Returns the history, what the journal said at opening, the first fault or change that a call reported, and the
+    /// journal, as the calls left them. Takes no memory.
     pub fn into_parts(self) -> ReplayParts<D>
         ensures history { result.history.items ≡ reverse self.core.past }
         ensures said { result.said ≡ self.core.opened.said }

@@ -1,4 +1,4 @@
-// A replay's book as one caller calls for it, one call after the other.
+// A replay's book as its one caller uses it, one call after the other.
 ghost use Rattle.std.specs.Prelude.{◌≡◌, All, IfOk};
 ghost use Rattle.esm_model.specs.declared.item.Item.{Item};
 ghost use Rattle.esm_replay_book.specs.Keeping.{IsSound};
@@ -11,7 +11,7 @@ use esm_replay_core::ReplayNext;
 use esm_serial::Serial;
 use std::alloc::Global;
 
-/// What is true of the book, whoever made its calls. Does nothing.
+/// States what is true of the book, whoever made its calls. Does nothing.
 fn know<D: Disk>(book: &Replay<D>)
     ensures { IsSound book.now }
 {
@@ -41,7 +41,7 @@ fn records_of(alloc: Global, list: Vec<Item>) -> Result<Vec<Record>, OutOfMemory
     Ok(records)
 }
 
-/// What a caller does next, in the words of every book.
+/// What a caller does next, in the terms that all books share.
 fn next_as(next: ReplayNext) -> Next
     ensures { result ≡ next_as next }
 {

@@ -1,4 +1,4 @@
--- What comes next, by what a core keeps. Only this crate's proofs cite this.
+-- What comes next, from what a core maintains. Only this crate's proofs cite this.
 use Rattle.std.specs.Prelude.{◌≡◌, ℕ, ◌<◌, ◌≤◌, List, [], map, length, Option, Some, None}
 use Rattle.std.specs.List.{All}
 use Rattle.esm_model.specs.declared.config.Config.{Config}
@@ -24,7 +24,7 @@ use Rattle.esm_replay_core.specs.declared.owed.Owed.TheVariants.{Nothing, Began}
 use Rattle.esm_replay_core.specs.declared.choosing.Chosen.{Chosen}
 use Rattle.esm_replay_core.specs.Deciding.{next_of}
 
--- what waits is what a history leaves to be called, over the records that came
+-- what waits is what the history leaves to be called, over the records that arrived
 pub record IsReady (s : ReplaySetting) (h : List Entry) (c : Config) (calls begun : ℕ) (rs : List Record) (w : Waiting) : Type 0 where
   pub config_is : config_of s ≡ c
   pub calls_is : s.base.calls ≡ calls
@@ -33,7 +33,7 @@ pub record IsReady (s : ReplaySetting) (h : List Entry) (c : Config) (calls begu
   pub placed : All (IsPlaced s rs) w.pieces
   pub records : (n : ℕ) → records_of s.base n ≡ of_shard n rs
 
--- a call of the front of the first piece
+-- a call of a prefix of the first piece begins
 pub record BeginsCall (s : ReplaySetting) (h : List Entry) (m : ℕ) (lane : LaneId) (places : List ℕ) (names : List (List ℕ)) (moment : ℕ) : Type 0 where
   pub lane_is : lane ≡ replay_lane (next_call s (pieces_left s h)).shard
   pub exact : places ≡ (next_call s (pieces_left s h)).places
@@ -42,7 +42,7 @@ pub record BeginsCall (s : ReplaySetting) (h : List Entry) (m : ℕ) (lane : Lan
   pub names_are : names ≡ sequences_at s.base lane.shard places
   pub moment_is : moment ≡ m
 
--- the answer owes this
+-- what the answer owes
 abbrev pub OwesNext : ReplaySetting → List Entry → ℕ → ReplayNext → Owed → Type 0
 OwesNext s h m (next.Call job) (Began lane places names moment) = (lane ≡ job.lane) × (places ≡ job.places) × BeginsCall s h m lane places names moment
 OwesNext s h m (next.Call job) _ = ⊥
@@ -63,17 +63,17 @@ BeginsBatch c n places rs m _ _ = ⊥
 abbrev pub IsBegunOf : Config → ℕ → List ℕ → List Record → ℕ → Chosen → Type 0
 IsBegunOf c n places rs m chosen = BeginsBatch c n places rs m chosen.next chosen.owed
 
--- what waits is what is still to be called; before a call was asked for nothing began
+-- what waits is what is still to be called; before a call was asked for, the history is empty
 abbrev pub IsWaitingFor : ReplaySetting → List Record → List Entry → Option Waiting → Type 0
 IsWaitingFor s rs h None = h ≡ []
 IsWaitingFor s rs h (Some w) = (seen_pieces w.pieces ≡ pieces_left s h) × All (IsPlaced s rs) w.pieces
 
--- it still is
+-- this still holds
 abbrev pub StaysWaiting : SaidLists → List Range → List Record → Option Waiting → Option Waiting → Type 0
 StaysWaiting told ranges rs old new =
     (c : Config) (calls : ℕ) (h : List Entry) → IsWaitingFor (setting_with c calls told ranges rs) rs h old → IsWaitingFor (setting_with c calls told ranges rs) rs h new
 
--- the same waits, with more room at most
+-- the same pieces wait, possibly with more room
 abbrev pub IsRoomier : Option Waiting → Option Waiting → Type 0
 IsRoomier None new = new ≡ None
 IsRoomier (Some w) None = ⊥
@@ -82,7 +82,7 @@ IsRoomier (Some w) (Some w') = w'.pieces ≡ w.pieces
 abbrev pub HasRoom : Waiting → Type 0
 HasRoom w = 2 ≤ w.room
 
--- a call of so many records may end
+-- a call of `count` records can end
 abbrev pub MayEndCall : ℕ → Option Waiting → Type 0
 MayEndCall count None = ⊥
 MayEndCall count (Some w) = (2 ≤ w.room) × (count ≤ length (front_of w.pieces))

@@ -15,7 +15,7 @@ use Rattle.esm_replay_core.specs.declared.decisions.ReplayNext.TheVariants as ne
 abbrev pub job_of : ReplaySetting → ReplayPiece → Job
 job_of s p = record { lane = replay_lane p.shard; places = p.places; closing = None; event = replay_event s p }
 
--- the rule that holds first: nothing is left to call, or as many calls began as are allowed, else the next call
+-- the first rule that holds: nothing is left to call; all calls allowed were made; otherwise the next call
 abbrev pub next_by : ReplaySetting → List Entry → List ReplayPiece → ReplayNext
 next_by s h [] = next.Finished
 next_by s h (p ∷ others) = if nat_le s.base.calls (calls_begun h) then next.Spent else next.Call (job_of s (next_call s (p ∷ others)))
@@ -23,18 +23,18 @@ next_by s h (p ∷ others) = if nat_le s.base.calls (calls_begun h) then next.Sp
 abbrev pub next_of : ReplaySetting → List Entry → ReplayNext
 next_of s h = next_by s h (pieces_left s h)
 
--- the entry that the answer adds: a call begins
+-- the entry that the answer adds: the beginning of a call
 abbrev pub next_entries : ReplayNext → ℕ → List Entry
 next_entries next.Spent m = []
 next_entries next.Finished m = []
 next_entries (next.Call job) m = Began job.lane job.places None m ∷ []
 
--- of the records that succeeded, where there are any
+-- the `Replayed` of the records that succeeded, if there are any
 abbrev pub replayed_entries : ℕ → List ℕ → ℕ → List Entry
 replayed_entries n [] m = []
 replayed_entries n (i ∷ places) m = Replayed n (i ∷ places) m ∷ []
 
--- the end of the call that is out, and then what is replayed
+-- the end of the running call, and then what is replayed
 abbrev pub done_entries : ReplaySetting → List Entry → LaneId → Reply → ℕ → List Entry
 done_entries s h lane reply m = Ended lane reply m ∷ replayed_entries (succeeded_of s (call_out h) reply).shard (succeeded_of s (call_out h) reply).places m
 

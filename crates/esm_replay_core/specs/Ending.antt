@@ -1,4 +1,4 @@
--- What the end of a call comes to. Only this crate's proofs cite this.
+-- What the end of a call results in. Only this crate's proofs cite this.
 use Rattle.std.specs.Prelude.{◌≡◌, ℕ, ◌≤◌, false, true, List, [], take, length, Option, Some, None}
 use Rattle.std.specs.List.{list_all}
 use Rattle.esm_model.specs.declared.limits.TheConstants.{MAX_BATCH, MAX_PAYLOAD}
@@ -15,17 +15,17 @@ use Rattle.esm_replay.specs.Ending.{ArePartsOf}
 use Rattle.esm_replay_core.specs.declared.owed.Replay.{Replay}
 use Rattle.esm_replay_core.specs.declared.ending.Ending.{Ending}
 
--- on a call of the records with these sequence numbers, none of which was tried before
+-- the ruling on a call of the records with these sequence numbers, none of which was tried before
 abbrev pub verdict_by : Config → List (List ℕ) → Reply → Verdict
 verdict_by c names reply = ruling c (length names) 0 (reading c names false reply)
 
--- these places are replayed, where there are any
+-- these places are replayed, if there are any
 abbrev pub IsReplayOf : ℕ → ℕ → List ℕ → List (List ℕ) → Option Replay → Type 0
 IsReplayOf n m places texts None = places ≡ []
 IsReplayOf n m places texts (Some r) =
     (1 ≤ length places) × (r.shard ≡ n) × (r.places ≡ places) × (r.moment ≡ m) × (r.payload.items ≡ payload_of (Replayed n m places texts)) × (length r.payload.items ≤ MAX_PAYLOAD)
 
--- a call of the first records of the first piece may end: what succeeded may be said
+-- a call of the first records of the first piece can end: a payload can say what succeeded
 pub record MayEnd (c : Config) (w : Waiting) (names : List (List ℕ)) (n : ℕ) (places : List ℕ) (reply : Reply) (m : ℕ) : Type 0 where
   pub few : length places ≤ MAX_BATCH
   pub some : 1 ≤ length places

@@ -1,4 +1,4 @@
--- What is kept of a replay's core. Only this crate's proofs cite this.
+-- The invariant of a replay's core. Only this crate's proofs cite this.
 use Rattle.std.specs.Prelude.{◌≡◌, ℕ, ◌+◌, ◌<◌, ◌≤◌, ◌^◌, List, [], ◌∷◌, ◌++◌, length, take, drop, reverse, Option, Some, None, IsSome, ⊤}
 use Rattle.std.specs.List.{All}
 use Rattle.std.specs.Vec.{vec_capacity}
@@ -32,7 +32,7 @@ use Rattle.esm_replay_core.specs.Owing.{replay_entry, replay_entries, owed_entri
 use Rattle.esm_replay_core.specs.Counts.{AreCounted, HasCount}
 use Rattle.esm_replay_core.specs.View.{ReplayView}
 
--- the parts of a core: the records that came, those that are coming, and the history with its newest entry first
+-- the parts of a core: the records that arrived, those whose arrival is owed, and the history, newest entry first
 pub record Parts : Type 0 where
   pub opened : Opened
   pub known : List Record
@@ -47,7 +47,7 @@ pub record Parts : Type 0 where
   pub begun : ℕ
   pub owed : Owed
 
--- what came is judged over
+-- the setting over which the history is judged
 abbrev pub setting_for : Opened → List Record → ReplaySetting
 setting_for o rs = setting_with o.config o.calls o.said o.ranges rs
 
@@ -57,7 +57,7 @@ own p = setting_for p.opened p.known
 abbrev pub seen_of : Parts → ReplayView
 seen_of p = record { opened = p.opened; records = p.known; past = p.past; coming = p.coming; owed = owed_entries p.owed }
 
--- the payload of what is replayed is the one that the journal keeps of it
+-- the payload of what is replayed is the one that the journal keeps for it
 pub record IsWritten (s : ReplaySetting) (r : Replay) : Type 0 where
   pub payload : entry_payload s.base (replay_entry r) ≡ Some r.payload.items
   pub short : length r.payload.items ≤ MAX_PAYLOAD
@@ -67,7 +67,7 @@ abbrev pub AreWritten : ReplaySetting → Option Replay → Type 0
 AreWritten s None = ⊤
 AreWritten s (Some r) = IsWritten s r
 
--- the call that is out may end so: its records are the first of the first piece, and the parts follow its ruling
+-- the running call can end so: its records are the first of the first piece, and the parts follow from its ruling
 pub record EndsCall (p : Parts) (reply : Reply) (count : ℕ) (parts : CallParts) : Type 0 where
   pub waiting : Waiting
   pub waits : p.waiting ≡ Some waiting
@@ -99,7 +99,7 @@ pub record OwesReplay (p : Parts) (r : Replay) : Type 0 where
   pub run : IsReplay (own p) (replay_entry r ∷ p.past)
   pub written : IsWritten (own p) r
 
--- of each state of what is owed: that no record is coming, that nothing else is called for, and that with it the history is a run
+-- for each state of what is owed: no record is arriving, nothing else is required, and with it the history is a run
 abbrev pub MayOwe : Parts → Owed → Type 0
 MayOwe p Nothing = (p.coming ≡ []) × ((owed_replay (own p) p.past).places ≡ [])
 MayOwe p Coming = (1 ≤ length p.coming) × (p.past ≡ []) × (p.waiting ≡ None)
@@ -108,7 +108,7 @@ MayOwe p (Ended lane reply moment count parts replay) = OwesEnd p lane reply mom
 MayOwe p (Replayed r) = OwesReplay p r
 MayOwe p Left = p.coming ≡ []
 
--- the sequence numbers of the call that is out, where one is
+-- the sequence numbers of the running call, if there is one
 abbrev pub AreNames : Parts → Type 0
 AreNames p = 1 ≤ length (call_out p.past).places → p.names ≡ sequences_at (own p).base (call_out p.past).shard (call_out p.past).places
 
@@ -130,7 +130,7 @@ pub record IsKept (p : Parts) : Type 0 where
   pub names_are : AreNames p
   pub owed : MayOwe p p.owed
 
--- of the struct
+-- the parts of the struct
 
 abbrev pub parts_of : Inside → Parts
 parts_of c = record {

@@ -1,4 +1,4 @@
--- A core's entries as a book over devices tells them, and what its calls decide. This product's own.
+-- A core's entries as a book over devices sees them, and what its calls decide. This product's own.
 use Rattle.std.specs.Prelude.{◌≡◌, ℕ, ◌+◌, ◌<◌, ◌≤◌, ◌^◌, List, [], ◌++◌, length, map, reverse, Option, Some, None}
 use Rattle.std.specs.List.{All}
 use Rattle.esm_model.specs.Records.{Record}
@@ -45,13 +45,13 @@ payload_in (Added e payload) = payload
 abbrev pub no_line : ReplayEntry → Option (List ℕ)
 no_line e = None
 
--- records come before the first call begins
+-- records arrive only before the first call begins
 abbrev pub IsPayable : ReplayView → Type 0
 IsPayable v = 1 ≤ length v.coming → (v.past ≡ []) × (v.owed ≡ [])
 
 -- calls
 
--- records may come before the first call began
+-- records may arrive before the first call began
 pub record MayCome (v : ReplayView) (items : List Record) : Type 0 where
   pub early : v.past ≡ []
   pub valid : All IsValidRecord items
@@ -62,12 +62,12 @@ MayAsk v (call.Came items) = MayCome v items.items
 MayAsk v (call.Next moment) = (call_out v.past).places ≡ []
 MayAsk v (call.Done job reply moment) = IsJobOut v.past job
 
--- these entries are added, and with them the history is a run
+-- these entries are owed, and with them the history is a run
 pub record Adds (v : ReplayView) (es : List Entry) (entries : List ReplayEntry) : Type 0 where
   pub entries_are : entries ≡ added_entries (setting_of v) es
   pub run : RunAhead (owing v [] es)
 
--- the records come; none of them was kept otherwise
+-- the records arrive; none of them differs from what was kept
 abbrev pub DecidesCame : ReplayView → List Record → ReplayAnswer → List ReplayEntry → Type 0
 DecidesCame v items answer.Taken entries = (first_change v.opened.said v.records items ≡ None) × (entries ≡ came_entries items)
 DecidesCame v items _ entries = ⊥

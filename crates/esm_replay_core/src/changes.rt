@@ -1,4 +1,4 @@
-// What the journal kept of records that come: whether they differ from it, and whether they are named.
+// Comparing arriving records with what the journal kept of them: whether they differ, and whether they are named.
 ghost use Rattle.std.specs.Prelude.{◌≡◌, ℕ, ◌+◌, ◌<◌, ◌^◌, List, None, Some, IfOk, IfErr, OnOk, length, option_copied, option_map};
 ghost use Rattle.std.specs.Option.{option_or};
 ghost use Rattle.std.specs.Ordering.{nat_cmp};
@@ -21,22 +21,23 @@ use esm_replay::{Ranges, names_near};
 use std::alloc::Global;
 use std::collections::BTreeMap;
 
-/// What was found of a record: how it differs from what the journal kept of its place, if it does, and whether it is named.
+/// What was found about a record: how it differs from what the journal kept of its place, if it does, and whether it is
+/// named.
 #[derive(Drop)]
 struct Look {
     change: Option<Change>,
     is_named: bool,
 }
 
-/// What was found of a list of records: the first that differs from what the journal kept of its place, and where none does,
-/// of each whether it is named.
+/// What was found about a list of records: the first that differs from what the journal kept of its place; and if none
+/// does, for each whether it is named.
 #[derive(Drop)]
 pub(crate) struct Looked {
     pub change: Option<Change>,
     pub named: Vec<bool>,
 }
 
-/// The text that was kept with the tries of the shard's record at the place, if it has any.
+/// The text that was kept with the tries of the shard's record at the place, if it has tries.
 fn tries_text(said: &Says, shard: u64, place: u32) -> Option<&KeptText>
     ensures { option_copied result ≡ option_map (λ (f : FoundTries). f.text) (tries_told said.entry.now shard place) }
 {
@@ -52,7 +53,7 @@ fn same_text(kept: &KeptText, number: &[u8]) -> bool
     kept.as_slice() == number
 }
 
-/// The text, where there is one and it is another than the sequence number.
+/// The text, if there is one and it differs from the sequence number.
 fn other_text<'a>(number: &[u8], kept: Option<&'a KeptText>) -> Option<&'a KeptText>
     ensures { option_copied result ≡ other_text number.now (option_copied kept.entry) }
 {
@@ -68,7 +69,7 @@ fn other_text<'a>(number: &[u8], kept: Option<&'a KeptText>) -> Option<&'a KeptT
     }
 }
 
-/// What was kept of the place with its fate, else with its tries, where that is another text. This is kept with the fate.
+/// The text kept with the fate of the place, which is `of_fate`, or else that kept with its tries, if it differs.
 fn kept_otherwise<'a>(
     said: &'a Says,
     item: &Record,
@@ -84,7 +85,7 @@ fn kept_otherwise<'a>(
     }
 }
 
-/// How the record differs from the kept text, where there is one.
+/// How the record differs from the kept text, if there is one.
 fn change_from(
     alloc: Global,
     item: &Record,
@@ -107,7 +108,7 @@ fn change_from(
     }
 }
 
-/// What the journal tells of the record at the place. Its fate is looked up once, and the range at `near` first.
+/// What the journal says of the record at the place. Its fate is looked up once, and the range at `near` is tried first.
 fn look_up(
     alloc: Global,
     said: &Says,
@@ -137,8 +138,8 @@ fn look_up(
     }
 }
 
-/// The first of the records that differs from what the journal kept of its place, where so many of each shard came before;
-/// and where none does, which of them are named. It looks at these records alone.
+/// The first of the records that differs from what the journal kept of its place, where `counts` has how many of each
+/// shard arrived before; and if none differs, which of them are named. It looks at these records alone.
 pub(crate) fn first_change(
     alloc: Global,
     said: &Says,
@@ -182,7 +183,7 @@ fn change_copy(alloc: Global, change: &Change) -> Result<Change, OutOfMemory>
     })
 }
 
-/// Refuses a list that brings a change.
+/// Returns the refusal of a list that brings this change, or `Ok` if there is none.
 pub(crate) fn refuse(alloc: Global, change: Option<Change>) -> Result<(), Refusal>
     ensures ok { OnOk result (change ≡ None) }
     ensures err { IfErr result (IsRefused (λ found. change ≡ Some found)) }

@@ -1,4 +1,4 @@
-// The call that a replay begins next, or why none begins.
+// Choosing the call that a replay begins next, or why none begins.
 ghost use Rattle.std.specs.Prelude.{◌≡◌, IfOk, All, List, length};
 ghost use Rattle.esm_model.specs.declared.entry.Entry.{Entry};
 ghost use Rattle.esm_model.specs.Valid.{IsValidRecord, IsStreamConfig};
@@ -20,7 +20,7 @@ pub(crate) struct Chosen {
     pub owed: Owed,
 }
 
-/// The call of the batch, of these records, begins at the moment.
+/// Begins the call of the batch at the moment.
 fn begin(
     alloc: Global,
     config: &Config,
@@ -61,8 +61,8 @@ fn begin(
     })
 }
 
-/// What comes next, at the moment: `Finished` exactly where nothing waits, `Spent` where as many calls began as are allowed,
-/// else the call of the front of the first piece.
+/// What comes next at the moment: `Finished` if and only if nothing waits; `Spent` if something waits and all calls
+/// allowed were made; otherwise the call of a prefix of the first piece.
 pub(crate) fn choose(
     alloc: Global,
     config: &Config,

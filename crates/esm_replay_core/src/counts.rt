@@ -1,4 +1,4 @@
-// How many records of each shard came.
+// How many records of each shard arrived.
 ghost use Rattle.std.specs.Prelude.{◌≡◌, ◌<◌, true, All, IfSome, OnOk, Some, IsSome, is_some};
 ghost use Rattle.std.specs.Ordering.{nat_cmp};
 ghost use Rattle.std.specs.Map.{count_at};
@@ -8,7 +8,7 @@ ghost use Rattle.esm_replay_core.specs.Counts.{IsRecounted, HasCount, HasOneMore
 use esm_model::{OutOfMemory, Record};
 use std::collections::BTreeMap;
 
-/// The number of the shard's records, 0 where it has none.
+/// The number of the shard's records, or 0 if it has no count.
 pub(crate) fn count_of(counts: &BTreeMap<u64, u32>, shard: u64) -> u32
     ensures { result ≡ count_at (get nat_cmp counts.now) shard }
 {
@@ -24,7 +24,7 @@ fn has_count(counts: &BTreeMap<u64, u32>, shard: u64) -> bool
     counts.contains_key(&shard)
 }
 
-/// A count for the shard, which is 0 where it had none.
+/// Makes a count for the shard, 0 if it had none.
 fn make_count(counts: &mut BTreeMap<u64, u32>, shard: u64) -> Result<(), OutOfMemory>
     ensures same { IsRecounted counts.old counts.new }
     ensures there { OnOk result (IsSome (get nat_cmp counts.new shard)) }
@@ -36,7 +36,7 @@ fn make_count(counts: &mut BTreeMap<u64, u32>, shard: u64) -> Result<(), OutOfMe
     Ok(())
 }
 
-/// Whether the last record was of the shard.
+/// Whether the last record was of this shard.
 fn is_shard(last: Option<u64>, shard: u64) -> bool
     ensures { result ≡ true → last ≡ Some shard }
 {
@@ -46,7 +46,7 @@ fn is_shard(last: Option<u64>, shard: u64) -> bool
     }
 }
 
-/// The same, where the last record's shard has a count: no look-up where it is this shard.
+/// The same, where the last record's shard has a count: this shard is looked up only if it is another.
 fn make_next(
     counts: &mut BTreeMap<u64, u32>,
     last: Option<u64>,
@@ -62,7 +62,7 @@ fn make_next(
     make_count(counts, shard)
 }
 
-/// A count for the shard of each record, which is 0 where it had none.
+/// Makes a count for the shard of each record, 0 if it had none.
 pub(crate) fn make_counts(
     counts: &mut BTreeMap<u64, u32>,
     items: &[Record],
@@ -79,7 +79,7 @@ pub(crate) fn make_counts(
     Ok(())
 }
 
-/// One more record of the shard, which has a count. Takes no memory.
+/// Counts one more record of the shard, which has a count. Takes no memory.
 pub(crate) fn count_one(counts: &mut BTreeMap<u64, u32>, shard: u64)
     requires there { IsSome (get nat_cmp counts.old shard) }
     requires few { count_at (get nat_cmp counts.old) shard < u32.MAX }

@@ -9,7 +9,7 @@ use esm_model::{Bytes, Config, Entry, Job, OutOfMemory, Record, Reply};
 use esm_replay::Ranges;
 use std::alloc::Global;
 
-/// What a core was opened with. Only contracts speak of it: no value is made.
+/// What a core was opened with. Only contracts use it: no value is made.
 pub struct Opened {
     pub config: Config,
     pub calls: u32,
@@ -17,7 +17,8 @@ pub struct Opened {
     pub ranges: Ranges,
 }
 
-/// A record that came, or an entry with what the journal has of it. Only contracts speak of it: no value is made.
+/// A record that arrived, or an entry with the payload that the journal has for it. Only contracts use it: no value is
+/// made.
 pub enum ReplayEntry {
     Came(Record),
     Added(Entry, Option<Bytes>),
@@ -26,11 +27,11 @@ pub enum ReplayEntry {
 /// A call of a replay. Moments are in milliseconds since 1970.
 #[derive(Drop)]
 pub enum ReplayCall {
-    /// Records come.
+    /// Records arrive.
     Came(Vec<Record>),
-    /// The caller asks what it is to do.
+    /// The caller asks what to do next.
     Next(u64),
-    /// The job's call of the function came to this reply.
+    /// The job's call of the function ended with this reply.
     Done(Job, Reply, u64),
 }
 
@@ -39,7 +40,7 @@ pub enum ReplayCall {
 pub enum ReplayNext {
     /// Call the function.
     Call(Job),
-    /// Stop: all calls allowed were made.
+    /// Stop: all calls allowed were made, and something is left.
     Spent,
     /// Stop: nothing is left.
     Finished,
@@ -50,7 +51,7 @@ pub enum ReplayNext {
 pub enum ReplayAnswer {
     Taken,
     Next(ReplayNext),
-    /// So many records are replayed.
+    /// This many records are replayed.
     Replayed(u32),
 }
 

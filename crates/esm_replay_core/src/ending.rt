@@ -1,4 +1,4 @@
-// What the end of a call of a replay is ruled to be, and what is written of the records that are replayed.
+// Ruling on the end of a call of a replay, and the payload of the records that it replays.
 ghost use Rattle.std.specs.Prelude.{◌≡◌, ◌≤◌, false, true, take, IfOk, length};
 ghost use Rattle.std.specs.List.{list_all};
 ghost use Rattle.esm_model.specs.declared.limits.TheConstants.{MAX_BATCH};
@@ -17,8 +17,8 @@ use esm_replay::{Parts, Waiting};
 use esm_verdict::{Answer, Call, judge, read_stream};
 use std::alloc::Global;
 
-/// What the end of a call comes to: so many of its records succeeded, these parts of the others are called again, and what
-/// is replayed.
+/// What the end of a call results in: how many of its records succeeded, which parts of the others are called again, and
+/// what is replayed.
 #[derive(Drop)]
 pub(crate) struct Ending {
     pub succeeded: u32,
@@ -39,8 +39,8 @@ fn numbers_of(alloc: Global, names: &[KeptText]) -> Result<Vec<Seq>, OutOfMemory
     Ok(numbers)
 }
 
-/// How the reply to a call of the records with these sequence numbers is read: they are looked at only where single records
-/// may be reported.
+/// Reads the reply to a call of the records with these sequence numbers; the numbers are used only if single records can
+/// be reported.
 fn answer_of(
     alloc: Global,
     config: &Config,
@@ -59,7 +59,7 @@ fn answer_of(
     read_stream(alloc, config, numbers.as_slice(), Call::OfBatch, reply)
 }
 
-/// The ruling on a call of the records with these sequence numbers by its reply, where none of them was tried before.
+/// The ruling on a call of the records with these sequence numbers by its reply; none of them was tried before.
 fn verdict_of(
     alloc: Global,
     config: &Config,
@@ -75,7 +75,7 @@ fn verdict_of(
     Ok(judge(config, names.len() as u32, 0, answer.reading))
 }
 
-/// The payload that says of the first so many records of a call that they are replayed.
+/// The payload which says that the first `count` records of a call are replayed.
 fn replay_payload(
     alloc: Global,
     shard: u64,
@@ -92,7 +92,7 @@ fn replay_payload(
     replayed_bytes(alloc, shard, moment, &places[..count], &names[..count])
 }
 
-/// What is replayed of the first so many records of a call, where there are any.
+/// What is replayed of the first `count` records of a call, if there are any.
 fn replay_of(
     alloc: Global,
     shard: u64,
@@ -120,7 +120,7 @@ fn replay_of(
     }))
 }
 
-/// The end of a call of the first records of the first piece, which have these sequence numbers, by its reply.
+/// The result of a call of the first records of the first piece, which have these sequence numbers, by its reply.
 pub(crate) fn end_of(
     alloc: Global,
     config: &Config,

@@ -1,7 +1,6 @@
-//! The decisions of a replay, without its devices: which records may come, which call begins next, and what its end adds.
-//! A core holds the history, the records that came and the pieces that wait, and the entries that were decided and are not
-//! yet added.
-//! Pure: values in, values out. No device, clock or thread.
+//! The decisions of a replay, without its devices: which records may arrive, which call begins next, and what its end
+//! adds. A core holds the history, the records that arrived, the pieces that wait, and the entries that were decided and
+//! are not yet added. Values in, values out: no device, clock or thread.
 #![tactic(auto)]
 
 mod changes;

@@ -1,4 +1,4 @@
-// The entries that a call of a replay owes: what comes, begins or ends, and what is replayed after that.
+// The entries that a call of a replay owes: arrivals, the beginning or the end of a call, and then what is replayed.
 ghost use Rattle.std.specs.Prelude.{◌≡◌, ◌≤◌, length, option_copied};
 ghost use Rattle.esm_replay_core.specs.Owing.{replay_entries, owed_entries, owed_replay_of, first_replay_of, is_left, given_up, owing_replay, still_coming};
 
@@ -19,16 +19,16 @@ pub(crate) struct Replay {
 #[derive(Drop)]
 pub(crate) enum Owed {
     Nothing,
-    /// The records that are not yet counted come.
+    /// The records that are not yet counted arrive.
     Coming,
-    /// A call of the function begins, of records with these sequence numbers.
+    /// A call of the function begins, with the records that have these sequence numbers.
     Began {
         lane: LaneId,
         places: Places,
         names: KeptTexts,
         moment: u64,
     },
-    /// It ends: so many records leave the first piece, and these parts of them are called again.
+    /// It ends: `count` records leave the first piece, and these parts of them are called again.
     Ended {
         lane: LaneId,
         reply: PastReply,
@@ -39,11 +39,11 @@ pub(crate) enum Owed {
     },
     /// Records are replayed.
     Replayed(Replay),
-    /// What the history calls for was given up: nothing more is decided.
+    /// What the history requires was given up: nothing more is decided.
     Left,
 }
 
-/// Whether what the history calls for was given up.
+/// Whether what the history requires was given up.
 pub(crate) fn is_left(owed: &Owed) -> bool
     ensures { result ≡ is_left owed.now }
 {
@@ -78,7 +78,7 @@ fn count_of(replay: &Option<Replay>) -> usize
     }
 }
 
-/// What is replayed by what is owed.
+/// The records that what is owed replays.
 pub(crate) fn replay_owed(owed: &Owed) -> Option<&Replay>
     ensures { option_copied result ≡ owed_replay_of owed.entry.now }
 {
@@ -89,7 +89,7 @@ pub(crate) fn replay_owed(owed: &Owed) -> Option<&Replay>
     }
 }
 
-/// What is replayed first by what is owed.
+/// The same, if the `Replayed` is owed first.
 pub(crate) fn first_owed(owed: &Owed) -> Option<&Replay>
     ensures { option_copied result ≡ first_replay_of owed.entry.now }
 {
@@ -99,7 +99,7 @@ pub(crate) fn first_owed(owed: &Owed) -> Option<&Replay>
     }
 }
 
-/// What is left of what is owed, once it is given up.
+/// What is owed after staged entries are discarded.
 pub(crate) fn given_up(owed: Owed) -> Owed
     ensures { result ≡ given_up owed }
 {
@@ -109,7 +109,7 @@ pub(crate) fn given_up(owed: Owed) -> Owed
     }
 }
 
-/// What is owed once the end of a call is added: what is replayed, if anything is.
+/// What is owed after the end of a call is added: its `Replayed`, if it has one.
 pub(crate) fn owing_replay(replay: Option<Replay>) -> Owed
     ensures { result ≡ owing_replay replay }
 {
@@ -119,7 +119,7 @@ pub(crate) fn owing_replay(replay: Option<Replay>) -> Owed
     }
 }
 
-/// What is owed once so many of the records came.
+/// What is owed after `came` of the records have arrived.
 pub(crate) fn still_coming(came: usize, records: usize) -> Owed
     ensures { result ≡ still_coming came records }
 {
@@ -130,7 +130,7 @@ pub(crate) fn still_coming(came: usize, records: usize) -> Owed
     }
 }
 
-/// Another thing is owed in place of what was.
+/// Replaces what is owed.
 pub(crate) fn put(place: &mut Owed, owed: Owed)
     ensures { place.new ≡ owed }
 {

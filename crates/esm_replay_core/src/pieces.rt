@@ -1,4 +1,4 @@
-// The pieces that wait, once a call was asked for.
+// The pieces that wait. They are made when the first call is asked for.
 ghost use Rattle.std.specs.Prelude.{◌≡◌, [], List, None, ◌+◌, ◌<◌, ◌≤◌, ◌^◌, OnOk, OnErr, IfSome, IsSome, length};
 ghost use Rattle.std.specs.Vec.{vec_capacity};
 ghost use Rattle.esm_journal_state.specs.SaidLists.{SaidLists};
@@ -10,7 +10,7 @@ use esm_model::{Entry, OutOfMemory, Record};
 use esm_replay::{Parts, Waiting, first_waiting};
 use std::alloc::Global;
 
-/// What waits first of these records, of which these are named, where no call was asked for.
+/// Makes the pieces that wait first, from these records and the flags that say which are named, if there are none yet.
 pub(crate) fn make_first(
     alloc: Global,
     waiting: &mut Option<Waiting>,
@@ -31,14 +31,14 @@ pub(crate) fn make_first(
     Ok(())
 }
 
-/// Nothing waits any more.
+/// Discards the pieces.
 pub(crate) fn clear(waiting: &mut Option<Waiting>)
     ensures { waiting.new ≡ None }
 {
     *waiting = None;
 }
 
-/// Room for what the end of a call splits.
+/// Reserves room for the parts that the end of a call may leave.
 fn make_pieces_room(waiting: &mut Option<Waiting>) -> Result<(), OutOfMemory>
     ensures waiting { IsRoomier waiting.old waiting.new }
     ensures room { OnOk result (IfSome waiting.new HasRoom) }
@@ -49,7 +49,7 @@ fn make_pieces_room(waiting: &mut Option<Waiting>) -> Result<(), OutOfMemory>
     }
 }
 
-/// Room for what the end of a call splits, and for what it adds.
+/// Reserves room for the parts and for the entries that the end of a call may add.
 pub(crate) fn make_room(
     waiting: &mut Option<Waiting>,
     history: &mut Vec<Entry>,
@@ -65,7 +65,7 @@ pub(crate) fn make_room(
     Ok(())
 }
 
-/// The end of a call of the first records of the first piece, of which these parts remain. Takes no memory.
+/// Ends a call of the first `count` records of the first piece, of which these parts remain. Takes no memory.
 pub(crate) fn end_call(waiting: &mut Option<Waiting>, count: u32, parts: Parts)
     requires { MayEndCall count waiting.old }
     ensures { IsEndedBy count parts waiting.old waiting.new }

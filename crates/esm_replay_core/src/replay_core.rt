@@ -1,4 +1,4 @@
-// The core of a replay: the records that came, the pieces that wait, the history, and what is owed.
+// The core of a replay: the records that arrived, the pieces that wait, the history, and what is owed.
 ghost use Rattle.std.specs.Prelude.{◌≡◌, ◌+◌, ◌<◌, ◌≤◌, ◌^◌, ◌++◌, ◌∷◌, [], None, min, max};
 ghost use Rattle.std.specs.Prelude.{IfOk, IfErr, IfSome, IfNone, OnOk, OnErr, All, Some, length, take, reverse, if◌then◌else◌};
 ghost use Rattle.esm_model.specs.declared.limits.TheConstants.{MAX_PAYLOAD};
@@ -34,12 +34,12 @@ use std::collections::BTreeMap;
 use std::marker::Model;
 use std::mem;
 
-/// The decisions of a replay, seen as what it was opened with, the records that came, its history, and what was decided and
-/// is not yet added.
+/// The decisions of a replay. Contracts see what it was opened with, the records that arrived, its history, and what was
+/// decided and is not yet added.
 ///
-/// Moments are in milliseconds since 1970; an entry has the moment that is handed in, or that of the last entry where that
-/// is later, and at most 9999-12-31T23:59:59.999Z. A core of which the end of a call was added without what is replayed is
-/// left: it answers want of memory from then on.
+/// Moments are in milliseconds since 1970. An entry has the moment that is passed in, or that of the last entry if it is
+/// later, and at most 9999-12-31T23:59:59.999Z. If the end of a call was added without its `Replayed`, which was then
+/// forgotten, every later `next` and `done` returns `OutOfMemory`.
 #[derive(Drop)]
 pub struct ReplayCore {
     /// With 0 retries and no windows.
@@ -47,18 +47,18 @@ pub struct ReplayCore {
     calls: u32,
     said: Says,
     ranges: Ranges,
-    /// The records that came, and then those that are coming.
+    /// The records that arrived, and then those whose arrival is owed.
     records: Vec<Record>,
-    /// Of each of them whether it is named.
+    /// For each of them whether it is named.
     are_named: Vec<bool>,
     came: usize,
-    /// How many of the records that came are of each shard.
+    /// How many of the records that arrived are of each shard.
     counts: BTreeMap<u64, u32>,
-    /// How many of the records that came are named.
+    /// How many of the records that arrived are named.
     named: u32,
-    /// What waits, once a call was asked for.
+    /// What waits; made when a call is first asked for.
     waiting: Option<Waiting>,
-    /// The sequence numbers of the call that is out.
+    /// The sequence numbers of the running call.
     names: KeptTexts,
     history: Vec<Entry>,
     /// The moment of the last entry.
@@ -88,7 +88,7 @@ fn raised_to(last: u64, moment: u64) -> u64
     moment.max(last).min(MAX_MOMENT)
 }
 
-/// The mapping as a replay follows it: without retries, and without windows.
+/// The mapping as a replay follows it: without retries and windows.
 fn replay_config(config: Config) -> Config
     ensures { result ≡ replay_config config }
 {
@@ -98,8 +98,8 @@ fn replay_config(config: Config) -> Config
     config
 }
 
-/// Counts for the records' shards, and the records behind the others, each with whether it is named. After `OutOfMemory` they
-/// are not there.
+/// Makes counts for the records' shards, and appends the records, each with whether it is named. After `OutOfMemory` none
+/// of them is appended.
 fn take_in(
     counts: &mut BTreeMap<u64, u32>,
     records: &mut Vec<Record>,
@@ -134,7 +134,7 @@ fn one_if(passes: bool) -> u32
     if passes { 1 } else { 0 }
 }
 
-/// These are the sequence numbers of the call that is out.
+/// Replaces the sequence numbers of the running call.
 fn put_names(place: &mut KeptTexts, names: KeptTexts)
     ensures { place.new ≡ names }
 {
@@ -142,7 +142,8 @@ fn put_names(place: &mut KeptTexts, names: KeptTexts)
 }
 
 impl ReplayCore {
-    /// A core in which no record came, for so many calls in all. Want of memory hands back what the journal said.
+    /// Makes a core in which no record has arrived, for `calls` calls in all. After `OutOfMemory` what the journal said
+    /// is given back.
     pub fn new(
         alloc: Global,
         config: Config,
@@ -179,8 +180,8 @@ impl ReplayCore {
         })
     }
 
-    /// Decides on records that come, before the first call began. A list with a record that was found with another text is
-    /// refused whole, and the first such record is told. After a refusal the core is as before.
+    /// Decides on records that arrive, before the first call began. If the journal kept another text of a record, the
+    /// whole list is refused, and the refusal reports the first such record. After a refusal the core is as before.
     pub fn came(&mut self, alloc: Global, items: Vec<Record>) -> Result<(), Refusal>
         requires settled { owed_of self.old ≡ [] }
         requires early { self.old.past ≡ [] }
@@ -217,9 +218,10 @@ impl ReplayCore {
         Ok(())
     }
 
-    /// What the caller does next: `Finished` exactly where nothing waits, `Spent` where as many calls began as are allowed,
-    /// else the call, which is owed. No call is out. After `OutOfMemory` the core is as before. The first call after records
-    /// came passes over all of them once; each further one costs its own records.
+    /// Decides what the caller does next: `Finished` if and only if nothing waits; `Spent` if something waits and all
+    /// calls allowed were made; otherwise a call, which is owed. No call is running. After `OutOfMemory` the core is as
+    /// before. The first `next` after records arrived passes over all of them once; each further one takes time for its
+    /// own records alone.
     pub fn next(&mut self, alloc: Global, moment: u64) -> Result<ReplayNext, OutOfMemory>
         requires settled { owed_of self.old ≡ [] }
         requires rests { (call_out self.old.past).places ≡ [] }
@@ -256,8 +258,8 @@ impl ReplayCore {
         Ok(chosen.next)
     }
 
-    /// Decides what the end of the call that is out adds: its `Ended`, and a `Replayed` of the records that succeeded, where
-    /// there are any; answers their number. After `OutOfMemory` the core is as before.
+    /// Decides what the end of the running call adds: its `Ended`, and a `Replayed` of the records that succeeded, if
+    /// there are any. Returns their number. After `OutOfMemory` the core is as before.
     pub fn done(
         &mut self,
         alloc: Global,
@@ -303,7 +305,7 @@ impl ReplayCore {
         Ok(ending.succeeded)
     }
 
-    /// Gives up what is owed. Takes no memory.
+    /// Discards what is owed. Takes no memory.
     pub fn forget(&mut self)
         ensures { self.new ≡ forgotten self.old }
     {
@@ -313,9 +315,9 @@ impl ReplayCore {
         put(&mut self.owed, given_up(owed));
     }
 
-    /// What is true of every core, whoever made its calls: its history is a run of the replay over the records that came,
-    /// which are valid, also with all that is owed after it; what a journal keeps of all this may be said; and no moment is past
-    /// the last one. Does nothing.
+    /// States what is true of every core, whoever made its calls: its history, also with all that is owed after it, is a
+    /// run of the replay over the records that arrived, which are valid; the journal accepts the payloads of all this;
+    /// and no moment is past the greatest. Does nothing.
     pub fn keeps(&self)
         ensures run { IsReplay (setting_of self.now) self.now.past }
         ensures ahead { RunAhead self.now }
@@ -387,14 +389,14 @@ impl ReplayCore {
         }
     }
 
-    /// How many entries are owed, a record that comes counting as one. Takes no memory.
+    /// How many entries are owed; each arriving record counts as one. Takes no memory.
     pub fn owed_count(&self) -> usize
         ensures { result ≡ length (owed_of self.now) }
     {
         self.records.len() - self.came + entries_owed(&self.owed)
     }
 
-    /// The lengths in bytes of the owed payloads, in order.
+    /// Returns the lengths in bytes of the owed payloads, in order.
     pub fn owed_lengths(&self, alloc: Global) -> Result<Vec<u32>, OutOfMemory>
         ensures { IfOk result (λ lengths. lengths.items ≡ lengths_of (written_of payload_in (owed_of self.now))) }
     {
@@ -408,7 +410,7 @@ impl ReplayCore {
         }
     }
 
-    /// The payload of the first of what is owed, where it has one. Takes no memory.
+    /// Returns the payload of the first of what is owed, if it has one. Takes no memory.
     pub fn first_payload(&self) -> Option<&[u8]>
         requires { 0 < length (owed_of self.now) }
         ensures payload { IfSome result (λ bytes. written_of payload_in (take 1 (owed_of self.entry.now)) ≡ bytes.now ∷ []) }
@@ -421,14 +423,15 @@ impl ReplayCore {
         }
     }
 
-    /// The number of the records that came and are named. Takes no memory.
+    /// The number of records that arrived and are named. Takes no memory.
     pub fn named(&self) -> u32
         ensures { result ≡ named_count (setting_of self.now) }
     {
         self.named
     }
 
-    /// The history, oldest entry first, without the records' arrivals, and what the journal said. Takes no memory.
+    /// Returns the history, oldest entry first and without the arrivals of records, and what the journal said. Takes no
+    /// memory.
     pub fn into_parts(self) -> (Vec<Entry>, Says)
         ensures history { result.0.items ≡ reverse self.past }
         ensures said { result.1 ≡ self.opened.said }

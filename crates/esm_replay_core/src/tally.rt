@@ -1,4 +1,4 @@
-// The places of the records of a list, where so many of each shard came before it.
+// The places of the records of a list, counted on from what of each shard arrived before it.
 ghost use Rattle.std.specs.Prelude.{◌≡◌, ℕ, ◌<◌, ◌+◌, OnOk};
 ghost use Rattle.std.specs.Ordering.{nat_cmp};
 ghost use Rattle.std.specs.Map.{count_at};
@@ -10,18 +10,18 @@ use esm_model::OutOfMemory;
 use std::alloc::Global;
 use std::collections::BTreeMap;
 
-/// Of each shard the place of its next record. That of the last record's shard is at hand, so records of one shard cost no
-/// look-up.
+/// The place of the next record of each shard. That of the last record's shard is a field of its own, so records of the
+/// same shard need no look-up.
 #[derive(Drop)]
 pub(crate) struct Tally {
     pub shard: u64,
     /// The place of the next record of that shard.
     pub place: u32,
-    /// Of the other shards that have a record in the list.
+    /// The places of the other shards that have a record in the list.
     pub others: BTreeMap<u64, u32>,
 }
 
-/// No record of the list came yet.
+/// The tally before any record of the list.
 pub(crate) fn new_tally(alloc: Global, counts: &BTreeMap<u64, u32>) -> Tally
     ensures { (q : ℕ) → next_place counts.now result q ≡ count_at (get nat_cmp counts.now) q }
 {
@@ -32,7 +32,7 @@ pub(crate) fn new_tally(alloc: Global, counts: &BTreeMap<u64, u32>) -> Tally
     }
 }
 
-/// The place of the next record of the shard, which is not at hand.
+/// The place of the next record of a shard that is not in the field.
 fn place_in(counts: &BTreeMap<u64, u32>, others: &BTreeMap<u64, u32>, shard: u64) -> u32
     ensures { result ≡ next_in counts.now others.now shard }
 {
@@ -42,7 +42,7 @@ fn place_in(counts: &BTreeMap<u64, u32>, others: &BTreeMap<u64, u32>, shard: u64
     }
 }
 
-/// The same places, with that of the shard at hand.
+/// Moves the place of this shard into the field; all places stay the same.
 pub(crate) fn take_in_hand(
     tally: &mut Tally,
     counts: &BTreeMap<u64, u32>,
@@ -61,7 +61,7 @@ pub(crate) fn take_in_hand(
     Ok(())
 }
 
-/// One more record of the shard at hand.
+/// Counts one more record of the shard in the field.
 pub(crate) fn count_next(tally: &mut Tally)
     requires { tally.old.place < u32.MAX }
     ensures { tally.new ≡ record tally.old { place = tally.old.place + 1 } }

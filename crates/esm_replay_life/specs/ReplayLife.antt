@@ -1,5 +1,6 @@
--- The life of a stream's mapping under replays: its replays, however each ended or was stopped, what other runs added to its
--- journal between them, and what was written in place of its content. What came last stands first. This product's own.
+-- The life of a stream's mapping under replays: its replays, however each ended or was stopped, what other runs added to
+-- its journal between them, and what was written in place of its content. A life has its latest stage first. This
+-- product's own.
 use Rattle.std.specs.Prelude.{◌≡◌, ℕ, ◌+◌, ◌≤◌, ◌==◌, ◌&&◌, Bool, true, false, IsTrue, List, [], ◌∷◌, ◌++◌, length, reverse, filter_map, Option, Some, None, if◌then◌else◌}
 use Rattle.esm_model.specs.declared.called.Called.{Called}
 use Rattle.esm_model.specs.declared.config.Config.{Config}
@@ -26,8 +27,8 @@ use Rattle.esm_replay_model.specs.Pieces.{ReplayPiece, replay_event, succeeded_o
 use Rattle.esm_replay_model.specs.ReplayReport.{is_replayed}
 use Rattle.esm_replay_model.specs.ReplayRun.{IsReplay, replay_calls}
 
--- a replay: what it was judged over, its trace with the newest entry first, the entry in hand where a disk failed, and the
--- payloads that it left in the journal, the oldest first
+-- a replay: the setting over which it was judged, its trace with the newest entry first, the entry in hand if a disk
+-- failed, and the payloads that it left in the journal, oldest first
 pub record ReplayRun : Type 0 where
   pub setting : ReplaySetting
   pub happened : List Entry
@@ -40,22 +41,23 @@ pub data Stage : Type 0 where
   Added : List (List ℕ) → Stage
   Rewritten : List (List ℕ) → Stage
 
--- the journal's content after the stages, the oldest payload first; it begins empty
+-- the journal's content after the stages, oldest payload first; at the beginning it is empty
 abbrev pub content : List Stage → List (List ℕ)
 content [] = []
 content (Replay r ∷ stages) = content stages ++ r.left
 content (Added payloads ∷ stages) = content stages ++ payloads
 content (Rewritten list ∷ stages) = list
 
--- what it says, the newest first
+-- what it says, newest first
 abbrev pub saids : List Stage → List Said
 saids life = history (reverse (content life))
 
--- What one replay leaves. Each field is a clause of what a run of a replay promises (`HasRun` and its `Headline`), whether it
--- ended or was stopped, and has its name where it has one.
+-- What one replay leaves. Each field is a clause of what a run of a replay promises (`HasRun` and its `Headline`),
+-- whether it ended or was stopped, and has the same name if the clause has one.
 
--- The setting of a replay over this content (`is_setting`, `unchanged`): what the content says, as the files were opened, the
--- records that the lines of the failure file name, and the records that came, of which none was kept with another text.
+-- The setting of a replay over this content (`is_setting`, `unchanged`): what the content says, as the files were opened;
+-- the records that the lines of the failure file name; and the records that arrived, none of which was kept with another
+-- text.
 pub record IsSettingOver (s : ReplaySetting) (old : List (List ℕ)) : Type 0 where
   pub told : SaidLists
   pub tells : Tells told (history (reverse old))
@@ -68,20 +70,20 @@ pub record IsSettingOver (s : ReplaySetting) (old : List (List ℕ)) : Type 0 wh
 
 pub record IsReplayRunOver (r : ReplayRun) (old : List (List ℕ)) : Type 0 where
   pub is_setting : IsSettingOver r.setting old
-  -- the trace is a run of the replay, and stays one with the entry in hand, of which there is one at most
+  -- the trace is a run of the replay, and remains one with the entry in hand; there is at most one
   pub legal_trace : IsReplay r.setting r.happened
   pub hand_is_run : IsReplay r.setting (r.hand ++ r.happened)
   pub in_hand : length r.hand ≤ 1
-  -- their payloads may be said
+  -- the journal accepts their payloads
   pub may_be_said : AllMayBeSaid r.setting.base (r.hand ++ r.happened)
-  -- the journal is left with the content found, followed by the first of these payloads, or by all of them (`journal_kept`,
-  -- `journal_stopped` and `crash`)
+  -- the journal is left with the content found, followed by a prefix of these payloads (`journal_kept`, `journal_stopped`
+  -- and `crash`)
   pub rest : List (List ℕ)
   pub kept : r.left ++ rest ≡ filter_map (entry_payload r.setting.base) (reverse r.happened ++ r.hand)
 
 -- what else may happen to the journal
 
--- nothing is said of a replay
+-- it says nothing of a replay
 abbrev pub IsNoReplay : Said → Type 0
 IsNoReplay (said.Replayed shard moment places texts) = ⊥
 IsNoReplay _ = Unit {0}
@@ -90,12 +92,12 @@ abbrev pub NoneReplays : List Said → Type 0
 NoneReplays [] = Unit {0}
 NoneReplays (s ∷ h) = NoneReplays h × IsNoReplay s
 
--- further payloads, of no kind 7, none of which is bad for a book
+-- further payloads, none of kind 7 and none bad for a book
 pub record AreFurther (payloads old : List (List ℕ)) : Type 0 where
   pub no_replay : NoneReplays (history (reverse payloads))
   pub good : are_good (reverse (old ++ payloads)) ≡ true
 
--- a list that says what the content said, none of whose payloads is bad for a book
+-- a list that says what the content said, with no payload that is bad for a book
 pub record SaysTheSame (list old : List (List ℕ)) : Type 0 where
   pub same : SameSaid (history (reverse list)) (history (reverse old))
   pub good : are_good (reverse list) ≡ true
@@ -125,33 +127,33 @@ abbrev pub replays_naming : List Said → ℕ → ℕ → ℕ
 replays_naming [] n i = 0
 replays_naming (s ∷ h) n i = naming_after n i (replays_naming h n i) s
 
--- each record is named by one of them at most
+-- at most one of them names a record
 abbrev pub EachReplayedOnce : List Stage → Type 0
 EachReplayedOnce life = (n i : ℕ) → replays_naming (saids life) n i ≤ 1
 
--- the content tells that the record was replayed
+-- the content says that the record was replayed
 abbrev pub is_recorded : List Stage → ℕ → ℕ → Bool
 is_recorded life n i = replayed_said (saids life) n i
 
 abbrev pub ReplaysStay : (later before : List Stage) → Type 0
 ReplaysStay later before = (n i : ℕ) → is_recorded before n i ≡ true → is_recorded (later ++ before) n i ≡ true
 
--- no call of the replay holds a record that the content of earlier stages tells was replayed, or that it replayed before the
--- call
+-- no call of the replay has a record that was replayed before: by the content of earlier stages, or in this replay before
+-- the call
 abbrev pub NoneIsCalledAgain : ReplayRun → List Stage → Type 0
 NoneIsCalledAgain r before =
     (later earlier : List Entry) (lane : LaneId) (places : List ℕ) (closing : Option ℕ) (m : ℕ) → r.hand ++ r.happened ≡ later ++ entry.Began lane places closing m ∷ earlier
     → (i : ℕ) → IsTrue (holds places i)
     → (is_recorded before lane.shard i ≡ false) × (is_replayed earlier lane.shard i ≡ false)
 
--- the caller's log of the replay has a call of these records with this answer, whatever the caller sends for an event
+-- the caller's log of the replay has a call of these records with this reply, whatever the caller sends for an event
 pub record IsLogged (r : ReplayRun) (call : ReplayPiece) (reply : Reply) (sends : List ℕ → List ℕ) : Type 0 where
   pub front : List Called
   pub back : List Called
   pub log : replay_calls r.setting sends r.happened
       ≡ front ++ record { name = (config_of r.setting).function; event = sends (replay_event r.setting call); reply = reply } ∷ back
 
--- the payload is of kind 7 and names exactly the records that an answer in the caller's log counts as succeeded
+-- the payload is of kind 7 and names exactly the records that a reply in the caller's log counts as succeeded
 pub record IsOfAnswer (r : ReplayRun) (payload : List ℕ) : Type 0 where
   pub call : ReplayPiece
   pub reply : Reply

@@ -1,6 +1,5 @@
-//! The life of a mapping under replays: what holds over lists of replays, however each ended or was stopped, and of what came
-//! between them, each as the contract of a function that does nothing.
-//! Pure: no device, clock or thread.
+//! The life of a mapping under replays: laws over lists of replays, however each ended or was stopped, and of what
+//! happened between them, as contracts of functions that do nothing. No device, clock or thread.
 #![tactic(auto)]
 
 pub mod life;

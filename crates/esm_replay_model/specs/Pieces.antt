@@ -13,7 +13,7 @@ use Rattle.esm_model.specs.Reading.{reading}
 use Rattle.esm_model.specs.Ruling.{ruling}
 use Rattle.esm_replay_model.specs.ReplaySetting.{ReplaySetting, config_of, named_places}
 
--- records of one shard, by place
+-- records of one shard, named by their places
 pub record ReplayPiece : Type 0 where
   pub shard : ℕ
   pub places : List ℕ
@@ -29,14 +29,14 @@ abbrev pub ahead : ℕ → List ℕ → List ReplayPiece → List ReplayPiece
 ahead n [] others = others
 ahead n (i ∷ places) others = piece n (i ∷ places) ∷ others
 
--- the first list
+-- the pieces at the start
 
--- the number in its place among rising ones, once
+-- the rising numbers with this one among them, once
 abbrev pub inserted : ℕ → List ℕ → List ℕ
 inserted n [] = n ∷ []
 inserted n (m ∷ ms) = if n == m then m ∷ ms else (if nat_lt n m then n ∷ m ∷ ms else m ∷ inserted n ms)
 
--- the shards of the streams, by rising number
+-- the shards of the streams, in rising order of their numbers
 abbrev pub rising_shards : List Stream → List ℕ
 rising_shards [] = []
 rising_shards (t ∷ ts) = inserted t.shard (rising_shards ts)
@@ -45,13 +45,13 @@ abbrev pub named_pieces : ReplaySetting → List ℕ → List ReplayPiece
 named_pieces s [] = []
 named_pieces s (n ∷ ns) = ahead n (named_places s n) (named_pieces s ns)
 
--- of each shard its named records
+-- the named records of each shard, as a piece
 abbrev pub first_pieces : ReplaySetting → List ReplayPiece
 first_pieces s = named_pieces s (rising_shards s.base.streams)
 
 -- calls
 
--- the event text of a call of these records
+-- the event text of a call with these records
 abbrev pub replay_event : ReplaySetting → ReplayPiece → List ℕ
 replay_event s p = event_text (config_of s) (records_at s.base p.shard p.places) None
 
@@ -59,33 +59,34 @@ replay_event s p = event_text (config_of s) (records_at s.base p.shard p.places)
 abbrev pub replay_fits : ReplaySetting → ReplayPiece → Bool
 replay_fits s p = nat_le (length p.places) (config_of s).batch_size && nat_le (length (replay_event s p)) MAX_EVENT
 
--- the longest prefix of the first piece that meets them
+-- the longest prefix of the first piece that meets the two limits
 abbrev pub next_call : ReplaySetting → List ReplayPiece → ReplayPiece
 next_call s [] = no_piece
 next_call s (p ∷ others) = piece p.shard (longest (λ places. replay_fits s (piece p.shard places)) [] p.places)
 
--- the ruling on a call, without retries
+-- the ruling on a call; a replay has no retries
 abbrev pub replay_verdict : ReplaySetting → ReplayPiece → Reply → Verdict
 replay_verdict s call reply = ruling (config_of s) (length call.places) 0 (reading (config_of s) (sequences_at s.base call.shard call.places) false reply)
 
--- the records that succeeded, and the others
+-- the records that succeeded, and the remaining ones
 abbrev pub succeeded_of : ReplaySetting → ReplayPiece → Reply → ReplayPiece
 succeeded_of s call reply = piece call.shard (take (replay_verdict s call reply).succeeded call.places)
 
 abbrev pub remaining_of : ReplaySetting → ReplayPiece → Reply → List ℕ
 remaining_of s call reply = drop (replay_verdict s call reply).succeeded call.places
 
--- a split makes the first of what remains and the rest of it two pieces before the others; else what remains is left
+-- after a split the first of the remaining records and the rest of them become two pieces before the others; otherwise the
+-- remaining records are left
 abbrev pub split_ahead : Rest → ℕ → List ℕ → List ReplayPiece → List ReplayPiece
 split_ahead (rest.Split k) n remaining others = ahead n (take k remaining) (ahead n (drop k remaining) others)
 split_ahead _ n remaining others = others
 
--- the first piece without the batch, which is its front
+-- the pieces without the batch, which is the front of the first one
 abbrev pub without_call : ReplayPiece → List ReplayPiece → List ReplayPiece
 without_call call [] = []
 without_call call (p ∷ others) = ahead p.shard (drop (length call.places) p.places) others
 
--- after the end of a call
+-- the pieces after the end of a call
 abbrev pub pieces_after_call : ReplaySetting → ReplayPiece → Reply → List ReplayPiece → List ReplayPiece
 pieces_after_call s call reply pieces =
     split_ahead (replay_verdict s call reply).rest call.shard (remaining_of s call reply) (without_call call pieces)

@@ -1,4 +1,4 @@
--- What holds of every run of a replay (newest entry first).
+-- The laws that hold of every run of a replay, which has its newest entry first.
 use Rattle.std.specs.Prelude.{◌≡◌, ◌⊎◌, ◌||◌, ℕ, ◌+◌, ◌*◌, ◌≤◌, true, false, IsTrue, List, [], ◌∷◌, ◌++◌, length, reverse, take, Option, None}
 use Rattle.esm_model.specs.declared.lane.LaneId.{LaneId}
 use Rattle.esm_model.specs.declared.entry.Entry.{Entry}
@@ -14,13 +14,13 @@ use Rattle.esm_replay_model.specs.Pieces.{piece, replay_verdict, succeeded_of, r
 use Rattle.esm_replay_model.specs.ReplayRun.{replay_lane, call_out, owed_replay, pieces_left, replay_calls}
 use Rattle.esm_replay_model.specs.ReplayReport.{is_replayed, replayed_in, named_count, replayed_count, left_count}
 
--- a `Replayed` names records that are named and that no earlier one names, so each at most once
+-- each record of a `Replayed` is named, and no earlier `Replayed` has it, so a record is replayed at most once
 abbrev pub ReplayedOnce : ReplaySetting → List Entry → Type 0
 ReplayedOnce s h =
     (later before : List Entry) (shard : ℕ) (places : List ℕ) (m : ℕ) → h ≡ later ++ Replayed shard places m ∷ before
     → (i : ℕ) → IsTrue (holds places i) → (is_named s shard i ≡ true) × (is_replayed before shard i ≡ false)
 
--- a call holds named records alone, and none that an earlier `Replayed` names
+-- a call has only named records, and none that an earlier `Replayed` has
 abbrev pub CallsNamed : ReplaySetting → List Entry → Type 0
 CallsNamed s h =
     (later before : List Entry) (lane : LaneId) (places : List ℕ) (closing : Option ℕ) (m : ℕ) → h ≡ later ++ Began lane places closing m ∷ before
@@ -52,7 +52,8 @@ IsNoSplit rest.Counted = Unit {0}
 IsNoSplit (rest.Split count) = ⊥
 IsNoSplit rest.Exhausted = Unit {0}
 
--- The last call of the record left it: by the answer it remained, what remained was not split, and no later call holds it.
+-- The last call of the record left it: the record remained by its reply, what remained was not split, and no later call has
+-- the record.
 pub record LeftByLast (s : ReplaySetting) (h : List Entry) (n i : ℕ) : Type 0 where
   pub later : List Entry
   pub before : List Entry
@@ -68,28 +69,28 @@ pub record LeftByLast (s : ReplaySetting) (h : List Entry) (n i : ℕ) : Type 0 
 abbrev pub AllReplayedOrLeft : ReplaySetting → List Entry → Type 0
 AllReplayedOrLeft s h = (n i : ℕ) → is_named s n i ≡ true → (is_replayed h n i ≡ true) ⊎ LeftByLast s h n i
 
--- once nothing is left to call, and what succeeded is replayed
+-- once nothing is left to call and what succeeded is replayed, each named record was replayed, or its last call left it
 abbrev pub ReplayedOrLeft : ReplaySetting → List Entry → Type 0
 ReplayedOrLeft s h = pieces_left s h ≡ [] → (owed_replay s h).places ≡ [] → AllReplayedOrLeft s h
 
--- What the answer to a call counts as succeeded is replayed next, all of it, unless the history ends with the answer.
+-- All that the reply to a call counts as succeeded is replayed next, unless the history ends with the reply.
 abbrev pub SucceededAreReplayed : ReplaySetting → List Entry → Type 0
 SucceededAreReplayed s h =
     (later before : List Entry) (e : Entry) (lane : LaneId) (reply : Reply) (m : ℕ) → h ≡ later ++ e ∷ Ended lane reply m ∷ before
     → 1 ≤ length (succeeded_of s (call_out before) reply).places → e ≡ Replayed (call_out before).shard (succeeded_of s (call_out before) reply).places m
 
--- The counts of the report: the records that the run replays are named ones, each counted once, and these and those that are
--- left are all of them.
+-- The counts of the report add up: the records that the run replays are named ones, each counted once, and together with
+-- those that are left they are all the named ones.
 pub record CountsAddUp (s : ReplaySetting) (h : List Entry) : Type 0 where
   pub replayed : replayed_in h ≡ replayed_count s h
   pub all : replayed_count s h + left_count s h ≡ named_count s
 
--- where no call is out, the caller's log has as many calls as began
+-- when no call is running, the caller's log has as many calls as began
 abbrev pub CallsLogged : ReplaySetting → (List ℕ → List ℕ) → List Entry → Type 0
 CallsLogged s sends h = (call_out h).places ≡ [] → length (replay_calls s sends h) ≡ calls_begun h
 
--- By a content to which the payloads of the history were added, fates and tries are as they were, and those records are
--- replayed that were before and those that the history replays. The oldest payload stands first.
+-- After the payloads of the history were added to a content, its fates and tries are as before, and the records replayed are
+-- those from before and those that the history replays. The oldest payload is first.
 pub record SaysAfter (s : ReplaySetting) (h : List Entry) (old : List (List ℕ)) : Type 0 where
   pub fates : (n i : ℕ) → fate_said (history (reverse (old ++ history_payloads s.base h))) n i ≡ fate_said (history (reverse old)) n i
   pub tries : (n i : ℕ) → tries_said (history (reverse (old ++ history_payloads s.base h))) n i ≡ tries_said (history (reverse old)) n i

@@ -17,12 +17,12 @@ replays_place n i _ = false
 abbrev pub is_replayed : List Entry → ℕ → ℕ → Bool
 is_replayed h n i = list_any (replays_place n i) h
 
--- the number of the records of pieces
+-- the number of records in the pieces
 abbrev pub records_in : List ReplayPiece → ℕ
 records_in [] = 0
 records_in (p ∷ others) = length p.places + records_in others
 
--- of those that pass
+-- the number of those that pass
 abbrev pub count_passing : (ℕ → ℕ → Bool) → List ReplayPiece → ℕ
 count_passing passes [] = 0
 count_passing passes (p ∷ others) = length (filter (passes p.shard) p.places) + count_passing passes others
@@ -37,7 +37,7 @@ replayed_count s h = count_passing (λ n i. is_replayed h n i) (first_pieces s)
 abbrev pub left_count : ReplaySetting → List Entry → ℕ
 left_count s h = count_passing (λ n i. not (is_replayed h n i)) (first_pieces s)
 
--- how many records a history replays
+-- the number of records that a history replays
 abbrev pub replayed_with : ℕ → Entry → ℕ
 replayed_with before (Replayed shard places moment) = length places + before
 replayed_with before _ = before
@@ -46,7 +46,7 @@ abbrev pub replayed_in : List Entry → ℕ
 replayed_in [] = 0
 replayed_in (e ∷ h) = replayed_with (replayed_in h) e
 
--- without the line feed
+-- the report's line, without the line feed
 abbrev pub replay_text : ReplaySetting → List Entry → List ℕ
 replay_text s h =
     codes "replay named " ++ decimal (named_count s)

@@ -1,4 +1,5 @@
--- Runs of a replay by tests that compute. A history that passes is a run; the worked histories are judged so.
+-- Runs of a replay as a test that computes. A history that passes is a run; the worked histories are proved to be runs by
+-- it.
 use Rattle.std.specs.Prelude.{ℕ, ◌==◌, nat_le, nat_lt, Bool, true, false, ◌&&◌, List, [], ◌∷◌, length, Some, None}
 use Rattle.std.specs.Str.{bytes_eq}
 use Rattle.esm_model.specs.declared.moment.TheConstants.{MAX_MOMENT}
@@ -14,7 +15,7 @@ use Rattle.esm_replay_model.specs.ReplayRun.{replay_lane, call_out, owed_replay,
 abbrev pub is_later_moment : List Entry → ℕ → Bool
 is_later_moment h m = nat_le (last_moment h) m && nat_le m MAX_MOMENT
 
--- the lane and the places are those of the piece, and there are any
+-- the lane and the places are those of the piece, which has some
 abbrev pub is_piece : ReplayPiece → LaneId → List ℕ → Bool
 is_piece p lane places = same_lane lane (replay_lane p.shard) && (bytes_eq places p.places && nat_le 1 (length places))
 

@@ -1,4 +1,4 @@
--- Worked examples of replays: a setting, a history (newest entry first) and what the definitions say of it.
+-- Worked examples of replays: a setting, a history with its newest entry first, and what the definitions say of it.
 use Rattle.std.specs.Prelude.{◌≡◌, ℕ, true, false, List, [], ◌∷◌, codes, map, Some, None}
 use Rattle.esm_model.specs.declared.entry.Fate.{Fate}
 use Rattle.esm_model.specs.declared.entry.Fate.TheVariants.{Succeeded, Exhausted}
@@ -16,26 +16,26 @@ use Rattle.esm_replay_model.specs.Pieces.{ReplayPiece, piece}
 use Rattle.esm_replay_model.specs.ReplayRun.{IsReplay, pieces_left}
 use Rattle.esm_replay_model.specs.ReplayReport.{replay_text}
 
--- the journal tells that the record of shard 0 at the place has the fate
+-- the fate of the record of shard 0 at the place, as found in the journal at opening
 abbrev pub found_with : Fate → ℕ → List ℕ → FoundFate
 found_with fate place text = record { shard = 0; place = place; fate = fate; text = text }
 
 abbrev pub given_up_at : ℕ → List ℕ → FoundFate
 given_up_at place text = found_with Exhausted place text
 
--- a failure line of shard 0
+-- the range of a failure line of shard 0
 abbrev pub range_of : List ℕ → List ℕ → Range
 range_of first last = record { shard = 0; first = first; last = last }
 
--- the line of `exhaust-eight` names all eight records; a text that is no JSON, one of a DynamoDB stream and one whose first
--- number is after its last name none
+-- the line of `exhaust-eight` names all eight records; a text that is no JSON, a line of a DynamoDB stream, and a line whose
+-- first number is greater than its last name none
 pub record FailureRanges : Type 0 where
   pub eight_named : failure_range exhausted_line ≡ Some (range_of (codes "1") (codes "8"))
   pub no_json : failure_range (codes "x") ≡ None
   pub other_stream : failure_range (codes "{\"DDBStreamBatchInfo\":{\"shardId\":\"shardId-000000000000\",\"startSequenceNumber\":\"1\",\"endSequenceNumber\":\"8\"}}") ≡ None
   pub backwards : failure_range (codes "{\"KinesisBatchInfo\":{\"shardId\":\"shardId-000000000000\",\"startSequenceNumber\":\"10\",\"endSequenceNumber\":\"8\"}}") ≡ None
 
--- a run over the setting with these calls, what is still to be called after it, and what the report says
+-- the history is a run over the setting, and has these calls, pieces still to be called, and report
 pub record Replays (s : ReplaySetting) (h calls : List Entry) (left : List ReplayPiece) (text : List ℕ) : Type 0 where
   pub is_run : IsReplay s h
   pub calls_are : calls_in h ≡ calls
@@ -59,15 +59,15 @@ replaying = record {
   replays = [];
 }
 
--- a call whose answer is good
+-- a call that succeeds
 abbrev pub replayed_call : List ℕ → List Entry → List Entry
 replayed_call places h = Replayed 0 places 0 ∷ ended succeeds 0 ∷ began places 0 ∷ h
 
--- one whose answer is a function error
+-- a call that ends with the function error
 abbrev pub left_call : List ℕ → List Entry → List Entry
 left_call places h = ended fails 0 ∷ began places 0 ∷ h
 
--- the same folder again: the journal tells of the replays
+-- the same folder again: the replays are found in its journal
 abbrev pub replaying_again : ReplaySetting
 replaying_again = record replaying { replays = map (λ (i : ℕ). record { shard = 0; place = i }) eight }
 
@@ -76,11 +76,11 @@ pub record ReplayEight : Type 0 where
   pub runs : Replays replaying (replayed_call eight []) (began eight 0 ∷ []) [] (codes "replay named 8 replayed 8 left 0")
   pub again : Replays replaying_again [] [] [] (codes "replay named 0 replayed 0 left 0")
 
--- a call that leaves out a record that fits may not begin
+-- a call that omits a record that fits may not begin
 abbrev pub ShortCallIsNoReplay : Type 0
 ShortCallIsNoReplay = ¬ IsReplay replaying (began (0 ∷ 1 ∷ 2 ∷ 3 ∷ 4 ∷ 5 ∷ 6 ∷ []) 0 ∷ [])
 
--- nothing is replayed that failed
+-- records that failed are not replayed
 abbrev pub FailedIsNotReplayed : Type 0
 FailedIsNotReplayed = ¬ IsReplay replaying (Replayed 0 eight 0 ∷ left_call eight [])
 
@@ -123,7 +123,7 @@ in_no_line = record one_given_up { ranges = range_of (codes "6") (codes "10") �
 abbrev pub UnlistedIsNotNamed : Type 0
 UnlistedIsNotNamed = Replays in_no_line [] [] [] (codes "replay named 0 replayed 0 left 0")
 
--- eight records that were given up are halved, where each call that holds the fifth fails
+-- eight records that were given up are halved; each call with the fifth one fails
 
 abbrev pub halving : ReplaySetting
 halving = record replaying { base = record replaying.base { config = record plain_mapping { bisect = true; batch_size = 6 } } }
@@ -134,18 +134,19 @@ first_halves = left_call (0 ∷ 1 ∷ 2 ∷ 3 ∷ 4 ∷ 5 ∷ []) []
 abbrev pub fifth_left : List Entry
 fifth_left = left_call (4 ∷ []) (replayed_call (3 ∷ []) (left_call (3 ∷ 4 ∷ []) (left_call (3 ∷ 4 ∷ 5 ∷ []) (replayed_call (0 ∷ 1 ∷ 2 ∷ []) first_halves))))
 
--- a batch of six is taken off the front, and its halves are called before the two records behind it; the fifth is left
+-- a batch of six is taken from the front, and its halves are called before the two records after it; the fifth record is
+-- left
 pub record HalvedReplay : Type 0 where
   pub halves : pieces_left halving first_halves ≡ piece 0 (0 ∷ 1 ∷ 2 ∷ []) ∷ piece 0 (3 ∷ 4 ∷ 5 ∷ []) ∷ piece 0 (6 ∷ 7 ∷ []) ∷ []
   pub runs : Replays halving (replayed_call (6 ∷ 7 ∷ []) (replayed_call (5 ∷ []) fifth_left))
       (began (0 ∷ 1 ∷ 2 ∷ 3 ∷ 4 ∷ 5 ∷ []) 0 ∷ began (0 ∷ 1 ∷ 2 ∷ []) 0 ∷ began (3 ∷ 4 ∷ 5 ∷ []) 0 ∷ began (3 ∷ 4 ∷ []) 0 ∷ began (3 ∷ []) 0 ∷ began (4 ∷ []) 0 ∷ began (5 ∷ []) 0 ∷ began (6 ∷ 7 ∷ []) 0 ∷ [])
       [] (codes "replay named 8 replayed 7 left 1")
 
--- the later half may not go first
+-- the later half may not be called first
 abbrev pub LaterHalfIsNoReplay : Type 0
 LaterHalfIsNoReplay = ¬ IsReplay halving (began (3 ∷ 4 ∷ 5 ∷ []) 0 ∷ first_halves)
 
--- an answer that reports the third of four records
+-- an answer reports the third of four records
 
 abbrev pub reporting : ReplaySetting
 reporting = record replaying {
@@ -158,7 +159,8 @@ reporting = record replaying {
 abbrev pub reports_third : Reply
 reports_third = Answered 200 false (codes "{\"batchItemFailures\":[{\"itemIdentifier\":\"3\"}]}")
 
--- the two before it are replayed; it is called again with the one behind it, and the two are halved once they fail
+-- the two records before it are replayed; it is called again together with the one after it, and the two are halved when
+-- they fail
 pub record ReportedReplay : Type 0 where
   pub runs : Replays reporting
       (left_call (2 ∷ 3 ∷ []) (Replayed 0 (0 ∷ 1 ∷ []) 0 ∷ ended reports_third 0 ∷ began (0 ∷ 1 ∷ 2 ∷ 3 ∷ []) 0 ∷ []))

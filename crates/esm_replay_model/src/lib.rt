@@ -1,6 +1,5 @@
-//! The vocabulary of replays, beside that of streams: which records the failure lines name, which histories are runs of a
-//! replay, and what its report says.
-//! Definitions and laws; no device, clock or thread.
+//! The vocabulary of replays, in addition to that of streams: which records the failure lines name, which histories are runs
+//! of a replay, and what its report says. Definitions and laws; no device, clock or thread.
 #![tactic(auto)]
 
 pub mod laws;

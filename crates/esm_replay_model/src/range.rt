@@ -1,7 +1,8 @@
-// What a failure line says of the records that were given up: their shard and a range of sequence numbers.
+// What a failure line names: a shard and a range of its sequence numbers.
 use esm_model::Seq;
 
-/// The records of a failure line: those of the shard whose sequence numbers are from `first` to `last`, both among them.
+/// The records that a failure line names: those of the shard whose sequence numbers are from `first` to `last`, both
+/// included.
 #[derive(Drop, Debug)]
 pub struct Range {
     pub shard: u64,

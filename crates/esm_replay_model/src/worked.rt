@@ -8,7 +8,7 @@ ghost use Rattle.esm_replay_model.specs.WorkedReplays.{FailureRanges, ReplayEigh
 ghost use Rattle.esm_replay_model.specs.WorkedReplays.{SecondCallIsNoReplay, NoCallsAllowed, ReplayEdges, UnnamedIsNotCalled};
 ghost use Rattle.esm_replay_model.specs.WorkedReplays.{UnlistedIsNotNamed, HalvedReplay, LaterHalfIsNoReplay, ReportedReplay};
 
-/// A history that passes the tests is a run of the replay.
+/// A history is a run of the replay if it passes the tests.
 pub fn replay_by_tests()
     ensures { (s : ReplaySetting) (h : List Entry) → is_replay s h ≡ true → IsReplay s h }
 {}
@@ -18,7 +18,7 @@ pub fn lines_read()
     ensures { FailureRanges }
 {}
 
-/// Eight records that one line names are replayed by one call, and not again; without calls they are left.
+/// One call replays eight records that one line names, and no later replay calls them again. Without calls they are left.
 pub fn eight_replayed()
     ensures replay_eight { ReplayEight }
     ensures short_call { ShortCallIsNoReplay }
@@ -27,15 +27,15 @@ pub fn eight_replayed()
     ensures no_calls { NoCallsAllowed }
 {}
 
-/// A record that fails again is left; one that no line names, or that was not given up, is not called.
+/// A record that fails again is left. One that no line names, or that was not given up, is not called.
 pub fn one_left()
     ensures replay_edges { ReplayEdges }
     ensures unnamed { UnnamedIsNotCalled }
     ensures unlisted { UnlistedIsNotNamed }
 {}
 
-/// A batch that fails is halved, and its halves are called first, the earlier before the later; of a batch that reports a
-/// record those before it are replayed, and the others are called again.
+/// A batch that fails is halved, and its halves are called first, the earlier one before the later one. If the answer
+/// reports a record of the batch, those before it are replayed, and the others are called again.
 pub fn pieces()
     ensures halved { HalvedReplay }
     ensures later_half { LaterHalfIsNoReplay }

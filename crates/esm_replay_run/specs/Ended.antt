@@ -1,4 +1,4 @@
--- Why a run of a replay ended so, and what it left. This product's own.
+-- Why a run of a replay ended, and what it left. This product's own.
 use Rattle.std.specs.Prelude.{◌≡◌, ◌⊎◌, ◌*◌, ◌≤◌, ◌∷◌, ◌++◌, ℕ, Bool, true, false, List, [], length, Option, Some, None, IsSome}
 use Rattle.esm_io.specs.Meanings.{DiskMeaning}
 use Rattle.esm_io.specs.Told.{Grows, TakesFront, IsAtEnd}
@@ -35,7 +35,7 @@ use Rattle.esm_replay_run.specs.declared.report.ReplayCounts.{ReplayCounts}
 use Rattle.esm_replay_run.specs.declared.run.ReplayEnd.{ReplayEnd}
 use Rattle.esm_replay_run.specs.declared.run.ReplayEnd.TheVariants as end
 
--- what devices tell: of the clock and the caller, and of the disks
+-- what devices show: the clock, the caller and the disks
 pub record Telling (D F : Type 0) : Type 1 where
   pub callers : Outside F
   pub disk : DiskMeaning D
@@ -43,12 +43,12 @@ pub record Telling (D F : Type 0) : Type 1 where
 abbrev pub telling : {D F : Type 0} → Outside F → DiskMeaning D → Telling D F
 telling callers disk = record { callers = callers; disk = disk }
 
--- of each shard all records came, and none of them was kept with another text
+-- all records of each shard arrived, and none of them was kept with another text
 pub record AllCame (said : SaidLists) (came records : List Record) : Type 0 where
   pub lists : (n : ℕ) → of_shard n came ≡ of_shard n records
   pub unchanged : first_change said [] records ≡ None
 
--- the book's trouble, where the run ended by one
+-- the book's trouble, if the run ended because of one
 abbrev pub trouble_of : ReplayEnd → Option Trouble
 trouble_of (end.Finished why) = None
 trouble_of end.CallsSpent = None
@@ -56,8 +56,8 @@ trouble_of end.DiskFault = Some trouble.Disk
 trouble_of (end.Changed change) = Some (trouble.Changed change)
 trouble_of (end.BadLine index) = None
 
--- The record that changed is the first of the input that did. The list that it is in, of at most `MAX_BATCH` records, was
--- refused whole: exactly the records before the list came, and no call was made.
+-- The record that changed is the first such one of the input. The list that it is in, of at most `MAX_BATCH` records, was
+-- refused whole: exactly the records before the list arrived, and no call was made.
 pub record IsChanged (said : SaidLists) (came : List Record) (h : List Entry) (records : List Record) (change : Change) : Type 0 where
   pub first : first_change said [] records ≡ Some change
   pub front : List Record
@@ -69,13 +69,14 @@ pub record IsChanged (said : SaidLists) (came : List Record) (h : List Entry) (r
   pub differs : first_change said front list ≡ Some change
   pub uncalled : h ≡ []
 
--- the faults of a disk of the journal rose since it was opened
+-- the count of faults of a disk of the journal rose since it was opened
 abbrev pub JournalRose : {D : Type 0} → DiskMeaning D → FilesState D → Disks D → Type 0
 JournalRose m f new = OneRose m (first_disk f.pair) (second_disk f.pair) new.journal new.spare
 
--- why: nothing is left to call, so that each named record was replayed or its last call left it, and the reading ended for
--- this; all calls allowed began, and something is left to call; the faults of a disk of the journal rose in the run, once all
--- records had come; or a record came with another text than was kept of its place, the first of the input that did
+-- The causes. `Finished`: nothing is left to call, so each named record was replayed or its last call left it, and the
+-- reading ended for this reason. `CallsSpent`: all calls allowed were made, and something is left to call. `DiskFault`:
+-- the count of faults of a disk of the journal rose in the run, after all records had arrived. `Changed`: a record
+-- arrived with another text than was kept of its place; it is the first such record of the input.
 abbrev pub IsCauseOf : {D : Type 0} → DiskMeaning D → FilesState D → ReplaySetting → (came : List Record) → List Entry → (records : List Record) → (reading : Option InputEnd) → Disks D → ReplayEnd → Type 0
 IsCauseOf m f s came h records reading new (end.Finished why) = AllCame f.said came records × (reading ≡ Some why) × (pieces_left s h ≡ []) × AllReplayedOrLeft s h
 IsCauseOf m f s came h records reading new end.CallsSpent = AllCame f.said came records × IsSome reading × (calls_begun h ≡ s.base.calls) × (pieces_left s h ≡ [] → ⊥)
@@ -83,7 +84,7 @@ IsCauseOf m f s came h records reading new end.DiskFault = AllCame f.said came r
 IsCauseOf m f s came h records reading new (end.Changed change) = IsChanged f.said came h records change
 IsCauseOf m f s came h records reading new (end.BadLine index) = ⊥
 
--- the input of a run of the configuration, as it was read
+-- the input of a run with this configuration, as it was read
 pub record IsInputOf {S : Type 0} (faults : S → ℕ) (left : S → Option (List ℕ)) (config : Config) (old new : S) (i : InputState S) : Type 0 where
   pub kind : i.kind ≡ kinds.Stream
   pub factor : i.factor ≡ config.factor
@@ -93,12 +94,12 @@ pub record IsInputOf {S : Type 0} (faults : S → ℕ) (left : S → Option (Lis
   pub good : i.failed ≡ false
   pub read : IsInput faults left i
 
--- the run over these files and this input, the reading of which ended so or came to no end, left this history, and it ended so
+-- the run over these files and this input left this history and ended so; its reading ended so, or did not come to an end
 pub record HasRun {S D F : Type 0} (t : Telling D F) (faults : S → ℕ) (left : S → Option (List ℕ)) (config : Config) (calls : ℕ) (f : FilesState D) (old_input new_input : S) (reading : Option InputEnd) (old_caller new_caller : F) (h : List Entry) (counts : ReplayCounts) (new : Disks D) (e : ReplayEnd) : Type 0 where
   pub input : InputState S
   pub is_input : IsInputOf faults left config old_input new_input input
   pub read_to : input.end ≡ reading
-  -- the records that came
+  -- the records that arrived
   pub came : List Record
   pub some_came : SomeCame came (records_in_items (handed input))
   -- none of which was kept with another text
@@ -109,12 +110,12 @@ pub record HasRun {S D F : Type 0} (t : Telling D F) (faults : S → ℕ) (left 
   pub headline : Headline t.disk t.callers.gave f setting h (trouble_of e) hand new
   pub are_counts : AreCounts setting h counts
   pub few_calls : AreFewCalls t.callers.sends setting h counts
-  -- the caller's log, where told, grew by the calls, and no call is without its end
+  -- the caller's log, where it is shown, grew by the calls, and no call is without its end
   pub calls_made : Grows (t.callers.log old_caller) (t.callers.log new_caller) (replay_calls setting t.callers.sends h)
   pub rests : (call_out h).places ≡ []
   pub cause : IsCauseOf t.disk f setting came h (records_in_items (handed input)) reading new e
 
--- nothing ran: nothing was read or called, and nothing was written
+-- nothing ran: nothing was read, called or written
 pub record HasNotBegun {S D F : Type 0} (t : Telling D F) (f : FilesState D) (old_input new_input : S) (reading : Option InputEnd) (old_caller new_caller : F) (h : List Entry) (new : Disks D) : Type 0 where
   pub input : new_input ≡ old_input
   pub unread : reading ≡ None
@@ -122,26 +123,26 @@ pub record HasNotBegun {S D F : Type 0} (t : Telling D F) (f : FilesState D) (ol
   pub no_trace : h ≡ []
   pub unwritten : AreClosed t.disk f new.journal new.spare new.failures
 
--- a line of the failure file is the first that names no records, and nothing ran; or it ran, and ended so
+-- a line of the failure file is the first that names no records, and nothing ran; or the replay ran, and ended so
 abbrev pub HasEnded : {S D F : Type 0} → Telling D F → (faults : S → ℕ) (left : S → Option (List ℕ)) → Config → (calls : ℕ) → FilesState D → (old_input new_input : S) → (reading : Option InputEnd) → (old_caller new_caller : F) → List Entry → ReplayCounts → Disks D → ReplayEnd → Type 0
 HasEnded t faults left config calls f old_input new_input reading old_caller new_caller h counts new (end.BadLine index) =
     IsFirstBadLine f.dest.payloads index × HasNotBegun t f old_input new_input reading old_caller new_caller h new
 HasEnded t faults left config calls f old_input new_input reading old_caller new_caller h counts new e = HasRun t faults left config calls f old_input new_input reading old_caller new_caller h counts new e
 
--- the faults of a disk of the journal rose in the run, where the trouble says so; there is no other trouble
+-- the count of faults of a disk of the journal rose in the run, if the trouble says so; there is no other trouble
 abbrev pub IsFaultOf : {D : Type 0} → DiskMeaning D → FilesState D → Disks D → Option Trouble → Type 0
 IsFaultOf m f new None = Unit {0}
 IsFaultOf m f new (Some trouble.Disk) = JournalRose m f new
 IsFaultOf m f new (Some trouble.Dest) = ⊥
 IsFaultOf m f new (Some (trouble.Changed change)) = ⊥
 
--- the log grew by the calls that ended, and by that which is out
+-- the log grew by the calls that ended, and by the running one
 pub record HasOneMore (sends : List ℕ → List ℕ) (s : ReplaySetting) (h : List Entry) (old new : Option (List Called)) : Type 0 where
   pub out : 1 ≤ length (call_out h).places
   pub reply : Reply
   pub logged : Grows old new (replay_calls s sends h ++ record { name = s.base.config.function; event = sends (replay_event s (call_out h)); reply = reply } ∷ [])
 
--- the log grew by the calls that ended, and perhaps by that which is out
+-- the log grew by the calls that ended, and perhaps by the running one
 abbrev pub HasLogged : (List ℕ → List ℕ) → ReplaySetting → List Entry → (old new : Option (List Called)) → Type 0
 HasLogged sends s h old new = Grows old new (replay_calls s sends h) ⊎ HasOneMore sends s h old new
 
@@ -149,15 +150,15 @@ HasLogged sends s h old new = Grows old new (replay_calls s sends h) ⊎ HasOneM
 abbrev pub records_read : Config → Bool → List ℕ → List Record
 records_read config whole bytes = records_in_items (from_start config.start (items_read kinds.Stream config.factor whole bytes).items)
 
--- the reading of the input had ended for this, with these bytes, and all their records had come
+-- the reading of the input had ended for this reason, with these bytes, and all their records had arrived
 pub record WasReadFirst {S : Type 0} (faults : S → ℕ) (config : Config) (said : SaidLists) (old_input new_input : S) (whole : Bool) (bytes more : List ℕ) (came : List Record) (reading : Option InputEnd) : Type 0 where
   pub ended : IsSome reading
   pub stands : StandsSo kinds.Stream config.factor (faults old_input) (faults new_input) whole bytes reading
   pub nothing_more : more ≡ []
   pub all : AllCame said came (records_read config whole bytes)
 
--- Want of memory stopped it: these bytes were read, the records of their lines came, or the first of them, and more bytes may
--- have been read after them. A call began only once all records had come. A disk may have failed beside it.
+-- Memory ran out during the run: these bytes were read, the records of their lines arrived, or the first of them, and
+-- more bytes may have been read after them. A call began only after all records had arrived. A disk may also have failed.
 pub record HasStopped {S D F : Type 0} (t : Telling D F) (faults : S → ℕ) (left : S → Option (List ℕ)) (config : Config) (calls : ℕ) (f : FilesState D) (old_input new_input : S) (reading : Option InputEnd) (old_caller new_caller : F) (h : List Entry) (counts : ReplayCounts) (new : Disks D) : Type 0 where
   pub bytes : List ℕ
   pub more : List ℕ
@@ -179,7 +180,7 @@ pub record HasStopped {S D F : Type 0} (t : Telling D F) (faults : S → ℕ) (l
   pub few_calls : calls_begun h ≤ 2 * counts.named
   pub calls_made : HasLogged t.callers.sends setting h (t.callers.log old_caller) (t.callers.log new_caller)
 
--- or it stopped before it began
+-- or it ran out before the run began
 abbrev pub HasStoppedRun : {S D F : Type 0} → Telling D F → (faults : S → ℕ) (left : S → Option (List ℕ)) → Config → (calls : ℕ) → FilesState D → (old_input new_input : S) → (reading : Option InputEnd) → (old_caller new_caller : F) → List Entry → ReplayCounts → Disks D → Type 0
 HasStoppedRun t faults left config calls f old_input new_input reading old_caller new_caller h counts new =
     HasNotBegun t f old_input new_input reading old_caller new_caller h new ⊎ HasStopped t faults left config calls f old_input new_input reading old_caller new_caller h counts new

@@ -1,4 +1,4 @@
--- The laws by which the headline of a replay holds. Only this crate's proofs cite this.
+-- The laws from which the headline of a replay follows. Only this crate's proofs cite this.
 use Rattle.std.specs.Prelude.{ℕ, List}
 use Rattle.esm_model.specs.declared.entry.Entry.{Entry}
 use Rattle.esm_journal_record.specs.EntryPayload.{AllMayBeSaid}

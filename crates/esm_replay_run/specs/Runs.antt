@@ -1,4 +1,4 @@
--- A run that is to begin, and what it leaves. Only this crate's proofs cite this.
+-- A run that is about to begin, and what it leaves. Only this crate's proofs cite this.
 use Rattle.std.specs.Prelude.{◌≡◌, ℕ, true, false, List, [], Some, None, Result, Ok, Err}
 use Rattle.esm_io.specs.Images.{Only}
 use Rattle.esm_io.specs.Meanings.{DiskMeaning}
@@ -26,7 +26,7 @@ use Rattle.esm_replay_run.specs.declared.run.ReplayEnd.TheVariants as end
 
 -- what begins
 
--- nothing was read of the input
+-- nothing was read from the input
 abbrev pub new_input : {S : Type 0} → Config → S → InputState S
 new_input config source = record { kind = kinds.Stream; factor = config.factor; start = config.start; found = source; source = source; bytes = []; whole = false; end = None; failed = false }
 
@@ -42,18 +42,18 @@ pub record IsBegun {S D : Type 0} (config : Config) (calls : ℕ) (said : SaidLi
   pub unread : handed i ≡ []
   pub name_is : name ≡ config.function
 
--- why it did not begin: for the first line that names no records
+-- why it did not begin: the first line that names no records
 abbrev pub IsRefusal : List (List ℕ) → ReplayEnd → Type 0
 IsRefusal lines (end.BadLine index) = IsFirstBadLine lines index
 IsRefusal lines _ = ⊥
 
--- the refusal is not of a payload
+-- the refusal does not concern a payload
 abbrev pub IsOfLine : ReplayOpen → Type 0
 IsOfLine (opens.BadPayload index) = ⊥
 IsOfLine (opens.BadLine index) = Unit {0}
 IsOfLine opens.OutOfMemory = Unit {0}
 
--- how the run then ends
+-- how the run ends then
 abbrev pub refusal_of : ReplayOpen → Result ReplayEnd OutOfMemory
 refusal_of (opens.BadPayload index) = Err (record {})
 refusal_of (opens.BadLine index) = Ok (end.BadLine index)
@@ -65,7 +65,7 @@ files_of journal spare failures said pair lines = record { journal = journal; sp
 
 -- what it leaves
 
--- what a crash leaves of the disks since they were handed in
+-- what a crash leaves of the disks since they were passed in
 abbrev pub LeavesSince : {D : Type 0} → DiskMeaning D → FilesState D → BookState D → Type 0
 LeavesSince m f b =
     m.honest f.journal ≡ true → m.honest f.spare ≡ true → Only (m.content f.journal) (m.image f.journal) → Only (m.content f.spare) (m.image f.spare) → (one other : List ℕ) →
@@ -84,6 +84,6 @@ pub record IsLeft {D : Type 0} (m : DiskMeaning D) (f : FilesState D) (b : BookS
   pub journal : HasJournal m b
   pub since : LeavesSince m f b
   pub pair_kept : PairKeepsWhileUp m b.pair
-  -- where a disk failed: what a crash leaves since the opening, and what it leaves now
+  -- if a disk failed: what a crash leaves since the opening, and what it leaves now
   pub opened_since : LeavesFirst m b.found b.pair (payloads_in (setting_of b.core) (entries_left b))
   pub pair_stopped : PairKeepsWhileDown m b.pair

@@ -1,4 +1,4 @@
-// The laws by which the headline of a replay holds, in one place.
+// The laws from which the headline of a replay follows, in one place.
 ghost use Rattle.esm_replay_run.specs.Laws.{AreLaws};
 
 use esm_replay_model::laws::{
@@ -6,7 +6,7 @@ use esm_replay_model::laws::{
     replayed_or_left, says_after, succeeded_are_replayed,
 };
 
-/// Does nothing.
+/// States the laws. Does nothing.
 pub(crate) fn laws_hold()
     ensures { AreLaws }
 {

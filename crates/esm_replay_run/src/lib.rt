@@ -1,5 +1,6 @@
-//! The run of a replay over the files of a folder: the input is read whole, the records that failure lines name are called
-//! again by one caller, one call after the other, and what it leaves is told with all that holds of it.
+//! The run of a replay over the files of a folder: the input is read to its end, and then one caller calls again the
+//! records that failure lines name, one call after the other. The contracts say what the run leaves and all that holds of
+//! it.
 #![tactic(auto)]
 
 mod laws;

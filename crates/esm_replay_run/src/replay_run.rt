@@ -26,7 +26,7 @@ use std::snapshot::Snapshot;
 use std::sync::Wait;
 use std::thread::Threads;
 
-/// The mapping and the disks as they were handed in, for the contracts alone.
+/// The mapping and the disks as they were passed in, for the contracts alone.
 #[derive(Drop)]
 struct Before<D> {
     config: Snapshot<Config>,
@@ -35,14 +35,14 @@ struct Before<D> {
     failures: Snapshot<D>,
 }
 
-/// A run that is to begin: its book, its input and the function's name.
+/// A run that is about to begin: its book, its input and the function's name.
 struct Opened<S: Source, D: Disk> {
     book: Replay<D>,
     input: Input<S>,
     name: Text,
 }
 
-/// Why a run did not begin, and what it took.
+/// Why a run did not begin, and what it was given.
 struct NotBegun<S, D: Disk> {
     why: Result<ReplayEnd, OutOfMemory>,
     pair: Pair<D>,
@@ -50,7 +50,7 @@ struct NotBegun<S, D: Disk> {
     input: S,
 }
 
-/// How a run ends whose book was not opened, over a journal whose payloads are good.
+/// How a run ends whose book was not opened; the payloads of its journal are good.
 fn refusal(why: ReplayOpen) -> Result<ReplayEnd, OutOfMemory>
     requires { IsOfLine why }
     ensures { result ≡ refusal_of why }
@@ -62,8 +62,8 @@ fn refusal(why: ReplayOpen) -> Result<ReplayEnd, OutOfMemory>
     }
 }
 
-/// Opens the book over the journal, which said this, and the lines of the failure file, and the input. Nothing is read or
-/// written.
+/// Opens the book over the journal, which said this, and over the lines of the failure file, and opens the input. Nothing
+/// is read or written.
 fn begin<S: Source, D: Disk>(
     alloc: Global,
     config: Config,
@@ -161,10 +161,10 @@ fn run_opened<R: Threads + Wait + Sync, S: Source, D: Disk, C: Clock, F: Caller>
     closed(end, history, counts, pair, lines, said, read_to, source)
 }
 
-/// Runs a replay: it reads the input whole, and then calls the records again that the lines of the failure file name, that
-/// were given up and were not replayed, one call after the other, as the mapping batches and halves, but without retries and
-/// without windows. What succeeds is written to the journal before the next call. The failure file is left as it was opened.
-/// `calls` is how many calls may be made in all.
+/// Runs a replay. It reads the input to its end. Then it calls again, one call after the other, the records that were
+/// given up, are named by a line of the failure file and were not yet replayed. It batches and halves as the mapping
+/// says, but without retries and windows. What succeeds is written to the journal before the next call. The failure file
+/// is only read. `calls` is how many calls may be made in all. An `end` of `OutOfMemory` means that memory ran out.
 pub fn run_replay<R: Threads + Wait + Sync, S: Source, D: Disk, C: Clock, F: Caller>(
     rt: &R,
     alloc: Global,

@@ -1,4 +1,4 @@
-// What the report of a replay counts.
+// Counting what the report of a replay says, and writing its line.
 ghost use Rattle.std.specs.Prelude.{◌≡◌, ◌≤◌, ◌++◌, ◌-◌, OnOk};
 ghost use Rattle.esm_report.specs.Report.{line};
 ghost use Rattle.esm_replay_model.specs.ReplayReport.{replayed_in};
@@ -16,7 +16,7 @@ pub struct ReplayCounts {
     pub left: u32,
 }
 
-/// Writes the words and the number behind what stands there.
+/// Appends the words and the number.
 fn push_count(out: &mut Vec<u8>, words: &[u8], count: u32) -> Result<(), OutOfMemory>
     ensures { OnOk result (out.new.items ≡ out.old.items ++ count_text words.now count) }
 {
@@ -25,7 +25,7 @@ fn push_count(out: &mut Vec<u8>, words: &[u8], count: u32) -> Result<(), OutOfMe
     Ok(())
 }
 
-/// Writes `replay named N replayed R left L` and a line feed behind what stands there.
+/// Appends `replay named N replayed R left L` and a line feed. After an `Err` a part of it may have been appended.
 pub fn push_replay_line(out: &mut Vec<u8>, counts: &ReplayCounts) -> Result<(), OutOfMemory>
     ensures { OnOk result (out.new.items ≡ out.old.items ++ line (counts_text counts.now)) }
 {
@@ -36,7 +36,7 @@ pub fn push_replay_line(out: &mut Vec<u8>, counts: &ReplayCounts) -> Result<(), 
     Ok(())
 }
 
-/// How many records the history replays, where they are at most so many.
+/// How many records the history replays; they are at most `named`.
 fn replayed_in(trace: &[Entry], named: u32) -> u32
     requires { replayed_in trace.now ≤ named }
     ensures { result ≡ replayed_in trace.now }
@@ -51,7 +51,7 @@ fn replayed_in(trace: &[Entry], named: u32) -> u32
     count
 }
 
-/// The counts of a history that replays records of so many that are named.
+/// The counts of a history that replays some of the `named` records.
 pub(crate) fn counts_of(named: u32, trace: &[Entry]) -> ReplayCounts
     requires { replayed_in trace.now ≤ named }
     ensures named { result.named ≡ named }

@@ -1,4 +1,4 @@
-// What a run of a replay leaves, how its end is told, and its devices taken apart.
+// What a run of a replay leaves, how its end is reported, and how its devices are taken apart.
 ghost use Rattle.std.specs.Prelude.{◌≡◌, IfOk, OnErr, IsErr};
 ghost use Rattle.esm_io.specs.Meanings.{disk as meaning};
 ghost use Rattle.esm_journal.specs.Pair.{PairKeepsWhileUp, first_disk, second_disk};
@@ -17,22 +17,23 @@ use std::snapshot::Snapshot;
 /// How the run of a replay ended.
 #[derive(Drop, Debug)]
 pub enum ReplayEnd {
-    /// Every named record was replayed or its last call left it; the reading of the input ended for this.
+    /// Every named record was replayed, or its last call left it; the reading of the input ended for this reason.
     Finished(InputEnd),
-    /// As many calls began as are allowed, and something is left to call.
+    /// All calls allowed were made, and something is left to call.
     CallsSpent,
     /// A disk of the journal failed.
     DiskFault,
-    /// A record came with another sequence number than was kept of its place, the first of the input that did.
+    /// A record arrived with another sequence number than was kept of its place; it is the first such record of the
+    /// input.
     Changed(Change),
-    /// The line of the failure file with this index, counted from 0, is the first that names no records of a shard. Nothing
-    /// ran.
+    /// The line of the failure file with this index, counted from 0, is the first that names no records of a shard.
+    /// Nothing ran.
     BadLine(u32),
 }
 
-/// A run of a replay: how it ended, its history with the oldest entry first, what its report counts, what its journal said
-/// before, how the reading of its input ended, for the contracts alone, and the devices as it left them: the input, the
-/// journal with its spare, and the failure file. Where the reading came to no end, the input was left before.
+/// What a run of a replay leaves: how it ended, its history with the oldest entry first, what its report counts, and what
+/// its journal said before; how the reading of its input ended, for the contracts alone, with `None` if the run ended
+/// before it did; and the devices as the run left them: the input, the journal with its spare, and the failure file.
 #[derive(Drop)]
 pub struct ReplayRun<S, D> {
     pub end: Result<ReplayEnd, OutOfMemory>,
@@ -46,8 +47,8 @@ pub struct ReplayRun<S, D> {
     pub failures: D,
 }
 
-/// How a run ended by which the caller came to this, with this trouble of the book, and the reading to that. Takes no memory:
-/// want of it ended the run only where it ended the caller.
+/// How a run ended, from how its caller's loop ended, the book's trouble, and how the reading ended. Takes no memory: the
+/// result is `OutOfMemory` only if the loop ended with it.
 pub(crate) fn end_of(
     ran: Result<RunEnd, OutOfMemory>,
     trouble: Option<Trouble>,

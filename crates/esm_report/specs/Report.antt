@@ -1,5 +1,5 @@
--- The report of a stream's run: a line for each shard that came, a line for the calls, and the last line, which tells
--- how the run ended. Each line ends with a line feed. This product's own.
+-- The report of a stream's run: a line for each shard of which records arrived, a line for the calls, and the last line,
+-- which says how the run ended. Each line ends with a line feed. This product's own.
 use Rattle.std.specs.Prelude.{ℕ, Bool, true, false, List, [], ◌++◌, codes, if◌then◌else◌}
 use Rattle.std.specs.List.{flat_map, fold}
 use Rattle.std.specs.Ordering.{nat_cmp}
@@ -26,11 +26,11 @@ line text = text ++ codes "\n"
 abbrev pub rising : List ℕ → List ℕ
 rising ns = fold (insert_key nat_cmp) [] ns
 
--- a word, and the number of the shard's records that came and have this fate
+-- a word, and how many of the shard's records that arrived have this fate
 abbrev pub fate_part : List ℕ → Fate → Setting → List Entry → ℕ → List ℕ
 fate_part word f s h n = codes " " ++ word ++ codes " " ++ decimal (fate_count s h n f)
 
--- the numbers of the four fates
+-- how many of them have each of the four fates
 abbrev pub fates_part : Setting → List Entry → ℕ → List ℕ
 fates_part s h n =
     fate_part (codes "succeeded") Succeeded s h n
@@ -38,14 +38,14 @@ fates_part s h n =
     ++ fate_part (codes "expired") Expired s h n
     ++ fate_part (codes "exhausted") Exhausted s h n
 
--- the shard, the number of its records that came, and its checkpoint
+-- the shard, the number of its records that arrived, and its checkpoint
 abbrev pub records_part : Setting → List Entry → ℕ → List ℕ
 records_part s h n =
     codes "shard " ++ shard_id n
     ++ codes " records " ++ decimal (came_count h n)
     ++ codes " checkpoint " ++ decimal (checkpoint s h n)
 
--- and the numbers of the four fates among these records, found ones included
+-- followed by how many of these records have each fate, those that the journal gave included
 abbrev pub shard_text : Setting → List Entry → ℕ → List ℕ
 shard_text s h n = records_part s h n ++ fates_part s h n
 
@@ -57,11 +57,11 @@ calls_text h = codes "calls " ++ decimal (calls_begun h)
 abbrev pub place_part : ℕ → ℕ → List ℕ
 place_part n i = shard_id n ++ codes " place " ++ decimal i
 
--- the text that the journal kept of a record, and the one that stands in the stream
+-- the text that the journal kept of a record, and the one in the stream
 abbrev pub texts_part : List ℕ → List ℕ → List ℕ
 texts_part kept given = codes " kept " ++ kept ++ codes " given " ++ given
 
--- a record that stands in the stream with another text than the journal kept of it
+-- a record of the stream that has another text than the journal kept of it
 abbrev pub change_text : Change → List ℕ
 change_text change =
     codes "stream changed " ++ place_part change.shard change.place ++ texts_part change.kept change.given
@@ -88,7 +88,7 @@ ending_text (Limit name) = codes "limit " ++ limit_name name
 abbrev pub last_line : Ending → List ℕ
 last_line ending = line (ending_text ending)
 
--- nothing ran, so there is nothing else to tell
+-- nothing ran, so there is nothing else to report
 abbrev pub stands_alone : Ending → Bool
 stands_alone BadWords = true
 stands_alone OpenFault = true
@@ -100,10 +100,10 @@ stands_alone DisabledMapping = true
 stands_alone (BadParameter name) = true
 stands_alone _ = false
 
--- the lines of the shards that came, by rising number
+-- the lines of the shards of which records arrived, in rising order of their numbers
 abbrev pub shard_lines : Setting → List Entry → List ℕ
 shard_lines s h = flat_map (λ n. line (shard_text s h n)) (rising (shards_that_came h))
 
--- the report of a history (newest entry first) and an ending
+-- the report of a history (newest entry first) and an ending; if nothing ran, it is the last line alone
 abbrev pub report_text : Setting → List Entry → Ending → List ℕ
 report_text s h ending = if stands_alone ending then last_line ending else shard_lines s h ++ line (calls_text h) ++ last_line ending

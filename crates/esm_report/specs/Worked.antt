@@ -1,4 +1,4 @@
--- Worked examples of queues' reports, first of them `empty-queue`.
+-- Worked examples of the reports of queues.
 use Rattle.std.specs.Prelude.{◌≡◌, List, [], ◌∷◌, codes}
 use Rattle.esm_model.specs.declared.config.Kind.TheVariants.{Standard}
 use Rattle.esm_model.specs.declared.entry.Entry.{Entry}
@@ -9,19 +9,19 @@ use Rattle.esm_queue_model.specs.WorkedHistories.{queue_mapping, queue_setting, 
 use Rattle.esm_report.specs.declared.ending.Ending.TheVariants.{Done, StreamChanged, UnknownMapping}
 use Rattle.esm_report.specs.Queue.{queue_report_text}
 
--- no message came
+-- no message arrived
 abbrev pub EmptyQueue : Type 0
 EmptyQueue =
     queue_report_text (queue_setting (queue_mapping Standard) []) [] Done
     ≡ codes "queue messages 0 deleted 0 succeeded 0 filtered 0\ncalls 0\ndone\n"
 
--- of two messages the journal told that the first is deleted; the second is called
+-- two messages, of which the journal says that the first is deleted; the second is called
 abbrev pub OneFound : Type 0
 OneFound =
     queue_report_text finding (good_call (1 ∷ []) 0 (all_came 2 0)) Done
     ≡ codes "queue messages 2 deleted 2 succeeded 2 filtered 0\ncalls 1\ndone\n"
 
--- the first message stands there with another id than the journal kept
+-- the first message of the queue has another id than the journal kept
 abbrev pub changed : Change
 changed = record { shard = 0; place = 0; kept = codes "a"; given = codes "z" }
 
@@ -30,6 +30,6 @@ ChangedMessage =
     queue_report_text finding [] (StreamChanged changed)
     ≡ codes "queue messages 0 deleted 0 succeeded 0 filtered 0\ncalls 0\nstream changed queue place 0 kept a given z\n"
 
--- the registry has no such mapping, and nothing ran
+-- the registry has no such mapping, so nothing ran
 abbrev pub NothingRan : Type 0
 NothingRan = (s : QueueSetting) (h : List Entry) → queue_report_text s h UnknownMapping ≡ codes "unknown mapping\n"

@@ -1,4 +1,4 @@
-// Why the messages of a queue are deleted, and how many are.
+// With which fates the messages of a queue are deleted, and how many are.
 ghost use Rattle.std.specs.Prelude.{◌≡◌, length, filter, is_some};
 ghost use Rattle.esm_model.specs.Fates.{below, is_fate};
 ghost use Rattle.esm_report.specs.Counts.{told_fate, message_fate};
@@ -7,7 +7,7 @@ use crate::fates::{Fates, is_fate};
 use esm_journal_state::Says;
 use esm_model::Fate;
 
-/// The fates of a queue's messages: the found deletion's, else that which the history gave.
+/// The fates of a queue's messages: by the journal, or else by the history.
 #[derive(Drop)]
 pub(crate) struct Deletions<'a> {
     pub found: &'a Says,
@@ -15,7 +15,7 @@ pub(crate) struct Deletions<'a> {
 }
 
 impl Deletions<'_> {
-    /// How many of the first messages are deleted.
+    /// Returns how many of the first `messages` messages are deleted.
     pub(crate) fn count(&self, messages: u32) -> u32
         ensures { result ≡ length (filter (λ i. is_some (message_fate self.now i)) (below messages)) }
     {
@@ -28,7 +28,7 @@ impl Deletions<'_> {
         total
     }
 
-    /// How many of the first messages are deleted with this fate.
+    /// Returns how many of the first `messages` messages are deleted with this fate.
     pub(crate) fn count_with(&self, messages: u32, fate: Fate) -> u32
         ensures { result ≡ length (filter (λ i. is_fate fate (message_fate self.now i)) (below messages)) }
     {

@@ -1,24 +1,24 @@
 // The endings of a run.
 use esm_model::{Change, FileName, LimitName, Text};
 
-/// How the run of a stream's mapping ended, or why nothing ran.
+/// How the run of a mapping ended, or why nothing ran.
 #[derive(Drop, Debug)]
 pub enum Ending {
-    /// All that came has its fate.
+    /// Everything that arrived has its fate.
     Done,
-    /// All calls allowed were made.
+    /// All calls that `--calls` allows were made.
     CallsSpent,
     /// The command line was refused; nothing ran.
     BadWords,
-    /// A line of the input was refused: its number, counted from 1, and why.
+    /// A line of the input was refused: its number, counted from 1, and the reason.
     BadLine { number: u64, why: Text },
     /// The input failed.
     InputFault,
-    /// A disk of the journal failed in the run.
+    /// A disk of the journal failed during the run.
     DiskFault,
     /// A disk failed while the files were opened; nothing ran.
     OpenFault,
-    /// The failure destination failed in the run.
+    /// The failure destination failed during the run.
     DestFault,
     /// The file is no journal; nothing ran.
     NotAJournal { file: FileName },
@@ -26,7 +26,7 @@ pub enum Ending {
     Damaged { file: FileName, place: u64 },
     /// The file's payload with this index, counted from 0, is the first that no book could have written; nothing ran.
     BadPayload { file: FileName, index: u32 },
-    /// A record stands in the stream with another text than the journal kept of it.
+    /// A record of the stream has another text than the journal kept of it.
     StreamChanged(Change),
     /// The registry has no such mapping; nothing ran.
     UnknownMapping,
@@ -34,6 +34,6 @@ pub enum Ending {
     DisabledMapping,
     /// The named field of the mapping was refused; nothing ran.
     BadParameter { name: Text },
-    /// The input went past a limit of the engine.
+    /// The input exceeds a limit of the engine.
     Limit(LimitName),
 }

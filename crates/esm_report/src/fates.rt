@@ -8,7 +8,7 @@ use esm_model::{Fate, OutOfMemory, Places};
 use std::alloc::Global;
 use std::marker::Model;
 
-/// Fates by place, seen as a list; a place past its end has none.
+/// Fates by place, seen by contracts as a list; a place past its end has none.
 #[derive(Drop)]
 pub struct Fates {
     fates: Vec<Option<Fate>>,
@@ -24,7 +24,7 @@ impl Model for Fates {
 }
 
 impl Fates {
-    /// No place has a fate.
+    /// Makes a list in which no place has a fate.
     pub fn new(alloc: Global) -> Self
         ensures { result ≡ [] }
     {
@@ -33,7 +33,7 @@ impl Fates {
         }
     }
 
-    /// Gives the places this fate, but where they have one. After an `Err` some have it.
+    /// Gives this fate to each of the places that has none. After an `Err` only some may have it.
     pub fn give_all(&mut self, places: &Places, fate: Fate) -> Result<(), OutOfMemory>
         ensures { OnOk result ((i : ℕ) → get_or self.new i None
             ≡ option_or (get_or self.old i None) (if holds places.now i then Some fate else None)) }
@@ -67,7 +67,7 @@ impl Fates {
         Ok(())
     }
 
-    /// The fate of the place, where it has one.
+    /// Returns the fate of the place, if it has one.
     pub fn get(&self, place: u32) -> Option<Fate>
         ensures { result ≡ get_or self.now place None }
     {
@@ -78,7 +78,7 @@ impl Fates {
     }
 }
 
-/// Whether a place that was given this, where it was given any, has the fate.
+/// Whether a place was given exactly this fate.
 pub fn is_fate(fate: Fate, given: Option<Fate>) -> bool
     ensures { result ≡ is_fate fate given }
 {

@@ -1,6 +1,5 @@
-//! The reports that runs print: of a stream's run what became of the records of each shard, of a queue's run what became of
-//! the messages; how many calls were made, and how the run ended. Each is a text that is a function of what the journal said,
-//! the history and the ending.
+//! The reports that runs print: what became of the records of each shard, or of the messages of a queue; how many calls were
+//! made; and how the run ended. Each is a function of what the journal said, of the history and of the ending.
 //! Pure: values in, bytes out. No device, clock or thread.
 #![tactic(auto)]
 

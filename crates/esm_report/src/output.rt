@@ -19,9 +19,10 @@ use esm_journal_state::Says;
 use esm_model::{Change, Entry, Fate, FileName, LimitName, OutOfMemory, Text};
 use std::alloc::Global;
 
-/// The report of a run whose history is `trace`, the oldest entry first, and that ended so, where the journal said
-/// `said` at the run's opening. Linear in the entries, the places that they name and the records that came, but for
-/// the logarithms of the number of shards and of the number of found fates.
+/// Writes the report of a stream's run whose history is `trace` (oldest entry first) and whose ending is `ending`; `said` is
+/// what the journal said when the run opened it. Linear in the entries, the places that they name and the records that
+/// arrived, times the logarithms of the numbers of shards and of fates in the journal. `OutOfMemory` if an allocation
+/// failed.
 pub fn report(
     alloc: Global,
     said: &Says,
@@ -40,7 +41,7 @@ pub fn report(
     Ok(out)
 }
 
-/// The report where nothing ran: the last line alone.
+/// Writes the report if nothing ran: the last line alone.
 pub fn last_line(alloc: Global, ending: &Ending) -> Result<Vec<u8>, OutOfMemory>
     requires { stands_alone ending.now ≡ true }
     ensures { IfOk result (λ text. (s : Setting) (h : List Entry) → text.items ≡ report_text s h ending.now) }
@@ -65,14 +66,14 @@ fn push_history(
     Ok(())
 }
 
-/// Writes the line of the calls behind what stands there: how many began in a history, the oldest entry first.
+/// Appends the line of the calls: how many began in a history (oldest entry first).
 pub fn push_calls_line(out: &mut Vec<u8>, trace: &[Entry]) -> Result<(), OutOfMemory>
     ensures { OnOk result (out.new.items ≡ out.old.items ++ line (calls_text (reverse trace.now))) }
 {
     push_calls(out, calls_begun(trace))
 }
 
-/// Whether the last line is the whole report, since nothing ran.
+/// Whether the last line is the whole report, because nothing ran.
 pub fn stands_alone(ending: &Ending) -> bool
     ensures { result ≡ stands_alone ending.now }
 {
@@ -185,7 +186,7 @@ fn push_calls(out: &mut Vec<u8>, calls: u64) -> Result<(), OutOfMemory>
     Ok(())
 }
 
-/// The number of calls that began.
+/// Returns how many calls began.
 fn calls_begun(trace: &[Entry]) -> u64
     ensures { result ≡ calls_begun (reverse trace.now) }
 {
@@ -198,7 +199,7 @@ fn calls_begun(trace: &[Entry]) -> u64
     calls
 }
 
-/// Writes the last line of a report behind what stands there: how the run ended, and a line feed.
+/// Appends the last line of a report: how the run ended, and a line feed.
 pub fn push_last_line(out: &mut Vec<u8>, ending: &Ending) -> Result<(), OutOfMemory>
     ensures { OnOk result (out.new.items ≡ out.old.items ++ last_line ending.now) }
 {
@@ -289,7 +290,7 @@ fn push_place(out: &mut Vec<u8>, shard: u64, place: u32) -> Result<(), OutOfMemo
     Ok(())
 }
 
-/// Writes of a change the text that was kept, and the one that is given.
+/// Appends the two texts of a change: the one that was kept, and the one that the input gave.
 pub fn push_texts(out: &mut Vec<u8>, kept: &Text, given: &Text) -> Result<(), OutOfMemory>
     ensures { OnOk result (out.new.items ≡ out.old.items ++ texts_part kept.now given.now) }
 {

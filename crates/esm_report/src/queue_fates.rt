@@ -9,7 +9,7 @@ use crate::fates::Fates;
 use esm_model::{Entry, Fate, OutOfMemory, Places};
 use std::alloc::Global;
 
-/// Those of the history, the oldest entry first, by the place of the message.
+/// Collects the fates that the history (oldest entry first) gave, by the place of the message.
 pub(crate) fn fates_of(alloc: Global, trace: &[Entry]) -> Result<Fates, OutOfMemory>
     ensures { IfOk result (λ fates. AreGiven fates (reverse trace.now)) }
 {
@@ -35,7 +35,7 @@ fn add(fates: &mut Fates, entry: &Entry) -> Result<(), OutOfMemory>
     }
 }
 
-/// Gives the places of a queue, whose shard is 0, this fate, but where they have one.
+/// Gives this fate to each of the queue's places, whose shard is 0, that has none.
 fn give(fates: &mut Fates, shard: u64, places: &Places, fate: Fate) -> Result<(), OutOfMemory>
     ensures { OnOk result ((i : ℕ) → get_or fates.new i None
         ≡ option_or (get_or fates.old i None) (if (shard == 0) && holds places.now i then Some fate else None)) }

@@ -19,9 +19,9 @@ use esm_journal_state::Says;
 use esm_model::{Change, Entry, Fate, OutOfMemory};
 use std::alloc::Global;
 
-/// The report of a queue's run whose history is `trace`, the oldest entry first, and that ended so, where the journal said
-/// `said` at the run's opening. Linear in the entries, the places that they name and the messages that came, but for the
-/// logarithm of the number of found deletions.
+/// Writes the report of a queue's run whose history is `trace` (oldest entry first) and whose ending is `ending`; `said` is
+/// what the journal said when the run opened it. Linear in the entries, the places that they name and the messages that
+/// arrived, times the logarithm of the number of deletions in the journal. `OutOfMemory` if an allocation failed.
 pub fn queue_report(
     alloc: Global,
     said: &Says,
@@ -61,7 +61,7 @@ fn push_history(
     Ok(())
 }
 
-/// The number of messages that came; more of them than 32 bits count, as places are, do not fit into memory.
+/// Returns how many messages arrived. Places have 32 bits; a larger count would not fit into memory and is reported as such.
 fn messages_in(trace: &[Entry]) -> Result<u32, OutOfMemory>
     ensures { IfOk result (λ count. count ≡ queue_count (reverse trace.now)) }
 {

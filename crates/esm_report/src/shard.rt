@@ -1,4 +1,4 @@
-// The fates of a shard's places, found in the journal or given in the run.
+// The fates of a shard's places, by the journal or by the run.
 ghost use Rattle.std.specs.Prelude.{◌≡◌, length, filter};
 ghost use Rattle.std.specs.Option.{option_copied};
 ghost use Rattle.esm_model.specs.Fates.{below, is_fate};
@@ -8,7 +8,7 @@ use crate::fates::{Fates, is_fate};
 use esm_journal_state::Says;
 use esm_model::Fate;
 
-/// The fates of a shard's places: the found one, else the one that the history gave.
+/// The fates of a shard's places: by the journal, or else by the history.
 #[derive(Drop)]
 pub(crate) struct ShardFates<'a> {
     pub shard: u64,
@@ -17,7 +17,7 @@ pub(crate) struct ShardFates<'a> {
 }
 
 impl ShardFates<'_> {
-    /// How many of the first places have this fate.
+    /// Returns how many of the first `records` places have this fate.
     pub(crate) fn count(&self, records: u32, fate: Fate) -> u32
         ensures { result ≡ length (filter (λ i. is_fate fate (place_fate self.now i)) (below records)) }
     {
@@ -30,7 +30,7 @@ impl ShardFates<'_> {
         total
     }
 
-    /// The length of the longest prefix of the first places in which each has a fate.
+    /// Returns the length of the longest prefix of the first `records` places in which each has a fate.
     pub(crate) fn checkpoint(&self, records: u32) -> u32
         ensures { result ≡ front_count records (place_fate self.now) }
     {

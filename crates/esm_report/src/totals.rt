@@ -1,4 +1,4 @@
-// What a history comes to, shard by shard.
+// The totals of a history, shard by shard.
 ghost use Rattle.std.specs.Prelude.{◌≡◌, ℕ, ◌+◌, ◌==◌, ◌&&◌, List, ◌∷◌, Some, None, reverse, OnOk, IfOk, if◌then◌else◌};
 ghost use Rattle.std.specs.Option.{option_or};
 ghost use Rattle.std.specs.Ordering.{nat_cmp};
@@ -13,7 +13,7 @@ use esm_model::{Entry, Fate, OutOfMemory, Places};
 use std::alloc::Global;
 use std::collections::{BTreeMap, BTreeSet};
 
-/// The shards that came, the number of records that came of each, and the fates that were given to its places.
+/// The shards of which records arrived, how many of each, and the fates given to their places.
 #[derive(Drop)]
 pub(crate) struct Totals {
     pub shards: BTreeSet<u64>,
@@ -21,7 +21,7 @@ pub(crate) struct Totals {
     pub fates: BTreeMap<u64, Fates>,
 }
 
-/// The totals of the history, the oldest entry first.
+/// Counts the totals of the history (oldest entry first).
 pub(crate) fn totals_of(alloc: Global, trace: &[Entry]) -> Result<Totals, OutOfMemory>
     ensures { IfOk result (λ t. IsTotal t (reverse trace.now)) }
 {
@@ -55,8 +55,8 @@ fn add(alloc: Global, totals: &mut Totals, entry: &Entry) -> Result<(), OutOfMem
     }
 }
 
-/// Counts that so many more records of the shard came; more of them than 32 bits count, as places are, do not fit into
-/// memory.
+/// Counts `count` more records of the shard. Places have 32 bits; a larger sum would not fit into memory and is reported as
+/// such.
 fn add_records(records: &mut BTreeMap<u64, u32>, shard: u64, count: u32) -> Result<(), OutOfMemory>
     ensures { OnOk result ((n : ℕ) → count_at (map.get nat_cmp records.new) n
         ≡ (if shard == n then count + count_at (map.get nat_cmp records.old) n else count_at (map.get nat_cmp records.old) n)) }
@@ -69,7 +69,7 @@ fn add_records(records: &mut BTreeMap<u64, u32>, shard: u64, count: u32) -> Resu
     Ok(())
 }
 
-/// The number of the shard's records that came.
+/// Returns how many of the shard's records arrived.
 pub(crate) fn records_of(records: &BTreeMap<u64, u32>, shard: u64) -> u32
     ensures { result ≡ count_at (map.get nat_cmp records.now) shard }
 {
@@ -79,7 +79,7 @@ pub(crate) fn records_of(records: &BTreeMap<u64, u32>, shard: u64) -> u32
     }
 }
 
-/// Gives the shard's places this fate, but where they have one.
+/// Gives this fate to each of the shard's places that has none.
 fn give(
     alloc: Global,
     fates: &mut BTreeMap<u64, Fates>,

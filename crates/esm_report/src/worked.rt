@@ -1,8 +1,8 @@
 //! Worked examples, each computed from the definitions.
 ghost use Rattle.esm_report.specs.Worked.{EmptyQueue, OneFound, ChangedMessage, NothingRan};
 
-/// The report of a run over no message; one that counts a deletion that the journal told; a message with another id than
-/// the journal kept; and a run that did not begin.
+/// Reports of four queues' runs: without a message; with a deletion that the journal had; with a message whose id is not the
+/// one that the journal kept; and a run that did not begin.
 pub fn reports()
     ensures empty_queue { EmptyQueue }
     ensures one_found { OneFound }

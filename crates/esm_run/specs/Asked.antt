@@ -1,4 +1,4 @@
--- What words ask for, by what it is over. Only this crate's proofs cite this.
+-- What the words ask for, by what the command works on. Only this crate's proofs cite this.
 use Rattle.std.specs.Prelude.{◌≡◌, List, ℕ}
 use Rattle.esm_cli.specs.declared.command.Command.{Command}
 use Rattle.esm_cli.specs.declared.command.Command.TheVariants as command

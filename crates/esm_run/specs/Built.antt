@@ -1,5 +1,5 @@
--- The commands that are built so far. Words that spell another one are refused as bad words, as words that spell none: a
--- command leaves this file when it is built. This product's own.
+-- Which commands are built: all of them today. Words that spell a command which is not built are refused as bad words, like
+-- words that spell none. This product's own.
 use Rattle.std.specs.Prelude.{◌≡◌, ℕ, Bool, true, List}
 use Rattle.esm_cli.specs.Words.{spells}
 use Rattle.esm_cli.specs.declared.command.Command.{Command}

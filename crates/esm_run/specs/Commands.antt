@@ -1,5 +1,5 @@
--- What became of the command that the words spell: how it ended, what it left, and what want of memory left of it. In each
--- definition the world comes first as it was handed in, and then as it was handed back. This product's own.
+-- What became of the command that the words spell: how it ended, what it left, and what it left if memory ran out. Each
+-- definition takes the world first as it was handed in, and then as it was handed back. This product's own.
 use Rattle.std.specs.Prelude.{◌≡◌, ◌⊎◌, ℕ, Bool, List}
 use Rattle.esm_cli.specs.declared.command.Command.{Command}
 use Rattle.esm_cli.specs.declared.command.Command.TheVariants.{Init, Run, Show, Failures, Gen, Compact, Serve, Migrate, Ddb, Redrive, Replay}
@@ -28,11 +28,11 @@ redrive_words config receives calls visibility timeout traced = record { config 
 
 -- ends
 
--- a command over the files alone ended with the status
+-- a command that uses only the files ended with the status
 abbrev pub FilesEnded : {S K D C F L N : Type 0} → DevicesTell S K D F L N → FilesCommand → (old new : World S K D C F L) → (status : ℕ) → Type 0
 FilesEnded t f old new status = FilesOutcome t.disk (disks_in old) (disks_in new) (output t old new) f status
 
--- the command ended with the status: why, and what was told
+-- the command ended with the status: why, and what was written
 abbrev pub HasEnded : {S K D C F L N : Type 0} → DevicesTell S K D F L N → Command → (old new : World S K D C F L) → (status : ℕ) → Type 0
 HasEnded t (Run r) old new status = RunOutcome (of_run t) r (output t old new) (history new) (seen old) (seen new) status
 HasEnded t (Ddb config calls timeout traced) old new status = DdbOutcome (of_run t) config calls traced (output t old new) (history new) (seen old) (seen new) status
@@ -46,7 +46,7 @@ HasEnded t Failures old new status = FilesEnded t (files.Upkeep upkeep.Failures)
 HasEnded t Compact old new status = FilesEnded t (files.Upkeep upkeep.Compact) old new status
 HasEnded t Migrate old new status = FilesEnded t (files.Upkeep upkeep.Migrate) old new status
 
--- the command that the words spell ended with the status, or they spell none that is built, and that was told
+-- the command that the words spell ended with the status; or they spell none that is built, and the output says so
 abbrev pub Outcome : {S K D C F L N : Type 0} → DevicesTell S K D F L N → List (List ℕ) → (old new : World S K D C F L) → (status : ℕ) → Type 0
 Outcome t words old new status =
     ((c : Command) × SpellsBuilt words c × HasEnded t c old new status)
@@ -54,7 +54,7 @@ Outcome t words old new status =
 
 -- no fault
 
--- the devices that the command uses are honest, tell, and did not fail; the output aside
+-- the devices that the command uses, except the output, are honest and visible and did not fail
 abbrev pub IsSound : {S K D C F L N : Type 0} → DevicesTell S K D F L N → Command → (old new : World S K D C F L) → Type 0
 IsSound t (Run r) old new = IsSoundRun (of_run t) r (seen old) (seen new)
 IsSound t (Ddb config calls timeout traced) old new = AreSoundDevices (of_run t) (seen old) (seen new)
@@ -68,33 +68,33 @@ IsSound t Compact old new = AreSoundUnder t.disk (disks_in old) (disks_in new) (
 IsSound t Migrate old new = AreSoundUnder t.disk (disks_in old) (disks_in new) (files.Upkeep upkeep.Migrate)
 IsSound t _ old new = Unit {0}
 
--- and the output did not
+-- and the output did not fail either
 pub record NoneFailed {S K D C F L N : Type 0} (t : DevicesTell S K D F L N) (words : List (List ℕ)) (old new : World S K D C F L) : Type 0 where
   pub output_told : ¬ Rose (t.output_faults old.out) (t.output_faults new.out)
   pub command : (c : Command) → SpellsBuilt words c → IsSound t c old new
 
 -- completeness
 
--- over this world the command comes to its end with nothing left, where no device fails; the run of a queue's mapping so, or with
--- its calls spent
+-- over this world the command ends with nothing left, if no device fails; the run of a queue's mapping ends so, or with its
+-- calls spent
 abbrev pub Completes : {S K D C F L N : Type 0} → DevicesTell S K D F L N → Command → (old new : World S K D C F L) → (status : ℕ) → Type 0
 Completes t (Run r) old new status = (run.MayComplete (of_run t) r (history new) (seen old) → status ≡ 0) × (run.MayFinish (of_run t) r (seen old) → (status ≡ 0) ⊎ (status ≡ 1))
 Completes t (Redrive config receives calls visibility timeout traced) old new status = MayComplete (of_run t) (redrive_words config receives calls visibility timeout traced) (seen old) → status ≡ 0
 Completes t (Ddb config calls timeout traced) old new status = ddb.MayComplete (of_run t) config calls (history new) (seen old) → status ≡ 0
 Completes t _ old new status = Unit {0}
 
--- so does the command that the words spell
+-- the same for the command that the words spell
 abbrev pub IsComplete : {S K D C F L N : Type 0} → DevicesTell S K D F L N → List (List ℕ) → (old new : World S K D C F L) → (status : ℕ) → Type 0
 IsComplete t words old new status = NoneFailed t words old new → (c : Command) → SpellsBuilt words c → Completes t c old new status
 
 -- what stays, whatever the status
 
--- a command over the files changed them and the output alone, and what is left of them
+-- a command over the files changed nothing but them and the output, and this is what is left of the files
 pub record AreFilesLeft {S K D C F L N : Type 0} (t : DevicesTell S K D F L N) (f : FilesCommand) (old new : World S K D C F L) : Type 0 where
   pub kept : new ≡ record old { out = new.out; journal = new.journal; spare = new.spare; failures = new.failures; registry = new.registry }
   pub files_left : AreLeft t.disk (disks_in old) (disks_in new) f
 
--- what the command changed at most, and what is left of its files
+-- what the command may have changed, and what is left of its files
 abbrev pub IsLeft : {S K D C F L N : Type 0} → DevicesTell S K D F L N → Command → (old new : World S K D C F L) → Type 0
 IsLeft t (Run r) old new = IsRegistryLeft t.disk r.which old.registry new.registry
 IsLeft t (Ddb config calls timeout traced) old new = new.registry ≡ old.registry
@@ -108,9 +108,9 @@ IsLeft t Failures old new = AreFilesLeft t (files.Upkeep upkeep.Failures) old ne
 IsLeft t Compact old new = AreFilesLeft t (files.Upkeep upkeep.Compact) old new
 IsLeft t Migrate old new = AreFilesLeft t (files.Upkeep upkeep.Migrate) old new
 
--- want of memory
+-- out of memory
 
--- how far the command came; of `init`, `show`, `failures` and `migrate` no more is said than what they leave
+-- how far the command got; for `init`, `show`, `failures` and `migrate`, nothing is said beyond what they leave
 abbrev pub IsCut : {S K D C F L N : Type 0} → DevicesTell S K D F L N → Command → (old new : World S K D C F L) → Type 0
 IsCut t (Run r) old new = IsCutOf (of_run t) r (history new) (seen old) (seen new)
 IsCut t (Ddb config calls timeout traced) old new = IsDdbCut (of_run t) config calls traced (history new) (seen old) (seen new)
@@ -121,9 +121,9 @@ IsCut t (Serve requests) old new = IsServeCut (of_serve t) old.registry new.regi
 IsCut t Compact old new = IsCompactCut t.disk (disks_in old) (disks_in new)
 IsCut t _ old new = Unit {0}
 
--- it stopped what the words ask for, and nothing was told
+-- an allocation failed: the command that the words spell was stopped, and nothing was written to the output
 pub record IsStopped {S K D C F L N : Type 0} (t : DevicesTell S K D F L N) (words : List (List ℕ)) (old new : World S K D C F L) : Type 0 where
   pub untold : new.out ≡ old.out
-  -- nothing came, and input and callers are as before, or they spell a command that came so far
+  -- the history is empty and input and callers are as before, or the words spell a command that got this far
   pub stopped : IsUntouched (history new) (seen old) (seen new) ⊎ ((c : Command) × SpellsBuilt words c × IsCut t c old new)
   pub each : (c : Command) → SpellsBuilt words c → IsCut t c old new

@@ -1,5 +1,4 @@
--- What the options of `run` are handed so that they come to the end of their input with nothing left, or to that of their calls,
--- where no device fails. This product's own.
+-- When the options of `run` end with nothing left, or with their calls spent, if no device fails. This product's own.
 use Rattle.std.specs.Prelude.{◌≡◌, ◌≤◌, ℕ, true, false, List, Some, reverse, slice_get}
 use Rattle.esm_cli.specs.declared.command.RunWords.{RunWords}
 use Rattle.esm_ingest.specs.Coming.{of_shard}
@@ -32,20 +31,21 @@ use Rattle.esm_run.specs.World.{RunTells, Seen}
 abbrev pub records_given : NamedMapping → List ℕ → List Record
 records_given mapping bytes = records_in_items (from_start mapping.start (items_read kinds.Stream mapping.config.factor true bytes).items)
 
--- each record of which these payloads tell a fate, or tries, comes with the sequence number that they kept of it
+-- each record for which these payloads have a fate, or tries, has the sequence number that they kept of it
 pub record HaveKeptNumbers (payloads : List (List ℕ)) (records : List Record) : Type 0 where
   pub of_fates : (n i : ℕ) (r : Record) (k : KeptFate) → slice_get (of_shard n records) i ≡ Some r → fate_said (history (reverse payloads)) n i ≡ Some k → r.seq ≡ k.text
   pub of_tries : (n i : ℕ) (r : Record) (k : KeptTries) → slice_get (of_shard n records) i ≡ Some r → tries_said (history (reverse payloads)) n i ≡ Some k → r.seq ≡ k.text
 
--- the setting that the configuration, the calls allowed, what the payloads say and these records make
+-- the setting given by the configuration, the calls allowed, what the payloads say and these records
 pub record IsSettingOver (config : Config) (calls : ℕ) (payloads : List (List ℕ)) (records : List Record) (s : Setting) : Type 0 where
   pub said : SaidLists
   pub tells : Tells said (history (reverse payloads))
   pub opened : s ≡ over (opened_with config calls said) s.streams
   pub lists : (n : ℕ) → records_of s n ≡ of_shard n records
 
--- So that nothing is left: a stream's mapping that may run, and finite retries; good files; a good input within the limits whose
--- records have the sequence numbers that the journal kept of them; and as many calls as the history of this run is bounded by.
+-- The conditions for nothing to be left: a stream's mapping that may run, with finite retries; good files; a good input
+-- within the limits, whose records have the sequence numbers that the journal kept; and as many calls as the bound of this
+-- run's history.
 pub record MayComplete {S D F : Type 0} (o : RunTells S D F) (r : RunWords) (h : List Entry) (old : Seen S D F) : Type 0 where
   pub mapping : NamedMapping
   pub named : IsNamed o.run.disk r.which old.disks.registry mapping
@@ -61,8 +61,8 @@ pub record MayComplete {S D F : Type 0} (o : RunTells S D F) (r : RunWords) (h :
 
 -- a queue's mapping
 
--- So that nothing is left or the calls are spent: a queue's mapping that may run; good files; and a good input within the limits
--- whose messages have the ids that the journal kept of them.
+-- The conditions for nothing to be left, or the calls to be spent: a queue's mapping that may run; good files; and a good
+-- input within the limits, whose messages have the ids that the journal kept.
 pub record MayFinish {S D F : Type 0} (o : RunTells S D F) (r : RunWords) (old : Seen S D F) : Type 0 where
   pub mapping : NamedMapping
   pub named : IsNamed o.run.disk r.which old.disks.registry mapping

@@ -1,7 +1,7 @@
--- How the command `ddb` ended, and what it left. Its input is read to its end or its first bad line, and each line is turned into
--- a line of a stream's input, over which its mapping then runs as a stream's; no call begins before. Source: the Lambda Developer
--- Guide, "Using Lambda with DynamoDB"; that the input is read first, and that nothing behind its first bad line is turned, is
--- this product's own.
+-- How the command `ddb` ended, and what it left. It reads its input to the end, or to the first bad line, and turns each
+-- line into a line of a stream's input. Then it runs the mapping over these lines as a stream's; no call begins before that.
+-- Source: the Lambda Developer Guide, "Using Lambda with DynamoDB"; that the input is read first, and that nothing behind
+-- its first bad line is turned, is this product's own.
 use Rattle.std.specs.Prelude.{◌≡◌, ◌⊎◌, ℕ, Bool, true, List, [], Option, Some}
 use Rattle.esm_ddb.specs.Translating.{source_of}
 use Rattle.esm_ddb.specs.TurnedInput.{IsTaken, IsTurnedInput}
@@ -27,7 +27,7 @@ use Rattle.esm_run.specs.World.{RunTells, Seen, Written, ddb_tells, devices_of}
 
 -- the input
 
--- The lines that it became are read as the input of a stream, of which its bytes are left. It does not fail.
+-- The turned lines are read as the input of a stream. This input shows its bytes and does not fail.
 
 abbrev pub never_fails : List ℕ → ℕ
 never_fails rest = 0
@@ -37,23 +37,23 @@ all_left rest = Some rest
 
 -- runs
 
--- the mapping that the text gives, of a table's stream
+-- the mapping that the text gives, which is that of a table's stream
 abbrev pub ddb_asks : {D : Type 0} → List ℕ → Asks D
 ddb_asks config = by_text DynamoDb config
 
--- The mapping ran, and its report is told, behind its trace where that is asked for, which is that of the turned lines. The
--- headline is that of a stream's run over the records of the turned lines; of each event `ddb_event` was handed on, which has the
--- records' own data as its elements where it has any, and of each failure line `ddb_line`, which has the table's name. An event or
--- a line that these do not change was handed on as it is.
+-- The mapping ran, and the text is its report, after its trace if that is asked for; the trace is that of the turned lines.
+-- The headline is that of a stream's run over the records of the turned lines. Each event is passed to the caller as
+-- `ddb_event` of it, whose elements are the records' own data where there is any, and each failure line to the file as
+-- `ddb_line` of it, which has the table's name. An event or a line that these do not change is passed as it is.
 pub record IsDdbRun {S D F : Type 0} (o : RunTells S D F) (config : List ℕ) (calls : ℕ) (traced : Bool) (h : List Entry) (old new : Seen S D F) (text : List ℕ) (ending : Ending) : Type 0 where
   pub mapping : NamedMapping
   pub files : FilesState D
   pub ready : IsReadyFor o.run.disk (ddb_asks config) old new mapping files
-  -- the input as it was turned, and how its reading ended
+  -- the turned lines of the input, and how the reading of the input ended
   pub lines : List ℕ
   pub reading : InputTurned
   pub is_turned : IsTurnedInput o.faults o.left (source_of mapping.config) old.input new.input lines reading
-  -- the turned lines as they were read, and the setting that they make
+  -- the turned lines as they were read, and the setting that they give
   pub rest : List ℕ
   pub input : InputState (List ℕ)
   pub is_input : stream.IsInputOf never_fails all_left mapping.config mapping.start lines rest input
@@ -66,7 +66,7 @@ pub record IsDdbRun {S D F : Type 0} (o : RunTells S D F) (config : List ℕ) (c
   pub hand : List Entry
   pub headline : Headline (ddb_tells o) true traced files setting h (trouble_of end) ending hand old.callers (devices_of new) text
 
--- why `ddb` ended so, and what is told: nothing ran, or the mapping ran
+-- why `ddb` ended so, and with which text: nothing ran, or the mapping ran
 abbrev pub DdbCause : {S D F : Type 0} → RunTells S D F → (config : List ℕ) → (calls : ℕ) → (traced : Bool) → List Entry → (old new : Seen S D F) → (text : List ℕ) → Ending → Type 0
 DdbCause o config calls traced h old new text ending =
     HasNotRun o.run.disk (ddb_asks config) h old new text ending ⊎ IsDdbRun o config calls traced h old new text ending
@@ -75,13 +75,13 @@ DdbCause o config calls traced h old new text ending =
 abbrev pub DdbOutcome : {S D F : Type 0} → RunTells S D F → (config : List ℕ) → (calls : ℕ) → (traced : Bool) → Written → List Entry → (old new : Seen S D F) → (status : ℕ) → Type 0
 DdbOutcome o config calls traced output h old new status = HasTold (DdbCause o config calls traced h old new) output status
 
--- want of memory
+-- out of memory
 
 -- bytes were read of an input, and its count of faults did not fall
 abbrev pub IsRead : {S : Type 0} → (faults : S → ℕ) (left : S → Option (List ℕ)) → (old new : S) → Type 0
 IsRead faults left old new = (bytes : List ℕ) × IsTaken faults left old new bytes
 
--- it came while the input was read: nothing came and nothing was written
+-- an allocation failed while the input was read: the history is empty and nothing was written
 pub record IsStoppedTurning {S D F : Type 0} (o : RunTells S D F) (config : List ℕ) (h : List Entry) (old new : Seen S D F) : Type 0 where
   pub mapping : NamedMapping
   pub named : (ddb_asks {D = D} config).is_named old.disks.registry mapping
@@ -92,7 +92,7 @@ pub record IsStoppedTurning {S D F : Type 0} (o : RunTells S D F) (config : List
   pub unopened : new.disks.registry ≡ old.disks.registry
   pub read : IsRead o.faults o.left old.input new.input
 
--- it stopped the run over the turned lines
+-- an allocation failed in the run over the turned lines
 pub record IsStoppedDdb {S D F : Type 0} (o : RunTells S D F) (config : List ℕ) (calls : ℕ) (h : List Entry) (old new : Seen S D F) : Type 0 where
   pub mapping : NamedMapping
   pub files : FilesState D
@@ -104,7 +104,8 @@ pub record IsStoppedDdb {S D F : Type 0} (o : RunTells S D F) (config : List ℕ
   pub run : stream.HasStoppedRun (ddb_tells o) all_left mapping.config mapping.start calls files lines rest old.callers h (devices_of new)
   pub read_first : CallsFollowShut h
 
--- before anything came; while the input was read; in the run; or when the run had ended and was to be told
+-- an allocation failed before the run began, while the input was read, in the run, or when the run had ended and its text
+-- was to be written
 abbrev pub IsDdbCut : {S D F : Type 0} → RunTells S D F → (config : List ℕ) → (calls : ℕ) → (traced : Bool) → List Entry → (old new : Seen S D F) → Type 0
 IsDdbCut o config calls traced h old new =
     HasNotBegun o.run.disk (ddb_asks config) h old new

@@ -1,4 +1,4 @@
--- What `ddb` is handed so that it comes to the end of its input with nothing left, where no device fails. This product's own.
+-- When `ddb` ends with nothing left, if no device fails. This product's own.
 use Rattle.std.specs.Prelude.{◌≡◌, ◌≤◌, ℕ, true, List, None, Some}
 use Rattle.esm_ddb.specs.Translating.{source_of}
 use Rattle.esm_ddb.specs.Translation.{translation_of}
@@ -14,13 +14,13 @@ use Rattle.esm_run.specs.Answers.{AreGoodFiles}
 use Rattle.esm_run.specs.Completes.{HaveKeptNumbers, IsSettingOver, records_given}
 use Rattle.esm_run.specs.World.{RunTells, Seen}
 
--- what the input's bytes become as the input of a stream
+-- the lines of a stream's input into which the input's bytes are turned
 abbrev pub lines_given : NamedMapping → List ℕ → List ℕ
 lines_given mapping bytes = (translation_of (source_of mapping.config) bytes).text
 
--- The mapping of a table's stream that may run, and finite retries; good files; an input each of whose lines tells a change or is
--- blank, which becomes a good one within the limits, and whose records have the sequence numbers that the journal kept of them; and as
--- many calls as the history of this run is bounded by.
+-- The conditions: a mapping of a table's stream that may run, with finite retries; good files; an input each of whose lines
+-- is a change or blank, and whose turned lines are a good input within the limits with the sequence numbers that the journal
+-- kept; and as many calls as the bound of this run's history.
 pub record MayComplete {S D F : Type 0} (o : RunTells S D F) (config : List ℕ) (calls : ℕ) (h : List Entry) (old : Seen S D F) : Type 0 where
   pub mapping : NamedMapping
   pub named : IsExpected DynamoDb config mapping

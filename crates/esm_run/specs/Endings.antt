@@ -1,4 +1,4 @@
--- How a run's ending tells why it ended, or why it did not begin, and with which exit status it is told. This product's own.
+-- Which ending says why a run ended, or why it did not begin, and the exit status of each ending. This product's own.
 use Rattle.std.specs.Prelude.{◌≡◌, ◌⊎◌, ℕ, List, ◌++◌, codes, Option, Some, None}
 use Rattle.esm_io.specs.Told.{Grows}
 use Rattle.esm_io.specs.Faults.{Rose}
@@ -46,8 +46,8 @@ ddb_why_text (ddb.Missing field) = codes "Missing " ++ ddb_name_of field
 ddb_why_text (ddb.BadField field) = codes "BadField " ++ ddb_name_of field
 ddb_why_text ddb.LineTooLong = codes "LineTooLong"
 
--- where nothing is left: in a run every record or message has its fate, and no window is outstanding; in a redrive every message
--- is deleted; in a replay each named record was replayed, or its last call left it
+-- by how the reading of the input ended, if nothing is left: in a run every record or message has its fate, and no window is
+-- outstanding; in a redrive every message is deleted; in a replay each named record was replayed, or its last call left it
 abbrev pub ending_of_reading : InputEnd → Ending
 ending_of_reading ends.End = ending.Done
 ending_of_reading (ends.BadLine bad) = ending.BadLine bad.line (why_text bad.why)
@@ -62,8 +62,8 @@ ending_of run.DiskFault = ending.DiskFault
 ending_of run.DestFault = ending.DestFault
 ending_of (run.Changed change) = ending.StreamChanged change
 
--- of the run of a DynamoDB stream's mapping, by how the reading of its input ended: where all that was turned of it has its fate,
--- this tells of the input
+-- of the run of a DynamoDB stream's mapping, by how the reading of its input ended: this is the ending if everything that
+-- was turned has its fate
 abbrev pub ending_of_turned : InputTurned → Ending
 ending_of_turned turned.Ended = ending.Done
 ending_of_turned (turned.BadLine bad) = ending.BadLine bad.line (ddb_why_text bad.why)
@@ -100,7 +100,7 @@ abbrev pub file_of : JournalFile → FileName
 file_of file.Journal = name.Journal
 file_of file.Failures = name.Failures
 
--- where its files were refused; want of memory has no ending
+-- if its files were refused; out of memory has no ending
 abbrev pub ending_of_files : FilesError → Option Ending
 ending_of_files (files.NotAJournal f) = Some (ending.NotAJournal (file_of f))
 ending_of_files (files.Damaged f place) = Some (ending.Damaged (file_of f) place)
@@ -108,7 +108,7 @@ ending_of_files (files.BadPayload index) = Some (ending.BadPayload name.Journal 
 ending_of_files files.DiskFault = Some ending.OpenFault
 ending_of_files files.OutOfMemory = None
 
--- where its mapping was refused
+-- if its mapping was refused
 abbrev pub ending_of_mapping : MappingError → Option Ending
 ending_of_mapping mapping.NotAJournal = Some (ending.NotAJournal name.Registry)
 ending_of_mapping (mapping.Damaged place) = Some (ending.Damaged name.Registry place)
@@ -139,12 +139,12 @@ status_of ending.DisabledMapping = 9
 status_of (ending.BadParameter name) = 9
 status_of (ending.Limit name) = 10
 
--- where the output failed
+-- if the output failed
 abbrev pub failed_status_of : Ending → ℕ
 failed_status_of ending.BadWords = 2
 failed_status_of _ = 5
 
--- the output failed after it took a part from the front of the text
+-- the output failed after it took a prefix of the text
 pub record IsCutShort (faults_before faults_now : ℕ) (before after : Option (List ℕ)) (text : List ℕ) : Type 0 where
   pub fault : Rose faults_before faults_now
   pub front : List ℕ
@@ -152,12 +152,12 @@ pub record IsCutShort (faults_before faults_now : ℕ) (before after : Option (L
   pub parts : text ≡ front ++ rest
   pub told : Grows before after front
 
--- the text was told whole, with the one status, or the output failed, with the other
+-- the whole text was written and the status is `told`, or the output failed and the status is `failed`
 abbrev pub IsToldWith : ℕ → ℕ → Option (List ℕ) → Option (List ℕ) → List ℕ → ℕ → ℕ → ℕ → Type 0
 IsToldWith faults_before faults_now before after text told failed status =
     ((status ≡ told) × Grows before after text) ⊎ ((status ≡ failed) × IsCutShort faults_before faults_now before after text)
 
--- the text of an ending
+-- the same with the two statuses of an ending
 abbrev pub IsTold : ℕ → ℕ → Option (List ℕ) → Option (List ℕ) → List ℕ → Ending → ℕ → Type 0
 IsTold faults_before faults_now before after text end status =
     IsToldWith faults_before faults_now before after text (status_of end) (failed_status_of end) status

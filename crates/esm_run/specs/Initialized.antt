@@ -1,4 +1,4 @@
--- How `init` ended: why, what was told, and with which exit status. This product's own.
+-- How `init` ended: why, what was written, and the exit status. This product's own.
 use Rattle.std.specs.Prelude.{ℕ}
 use Rattle.esm_io.specs.Faults.{Rose}
 use Rattle.esm_io.specs.Meanings.{DiskMeaning}
@@ -16,7 +16,7 @@ init_status Done = 0
 init_status (NotEmpty file size) = 8
 init_status DiskFault = 6
 
--- where the output failed
+-- the status if the output failed
 abbrev pub OUTPUT_FAULT : ℕ
 OUTPUT_FAULT = 5
 
@@ -25,7 +25,7 @@ pub record InitOutcome {D : Type 0} (m : DiskMeaning D) (old new : Disks D) (out
   pub cause : IsInitEnd m old new end
   pub told : IsToldWith output.faults_before output.faults_now output.before output.after (init_text end) (init_status end) OUTPUT_FAULT status
 
--- the disks are honest, and no count of faults rose or stands at its last value
+-- the disks are honest, and no count of faults rose or is at its greatest value
 pub record AreSound {D : Type 0} (m : DiskMeaning D) (old new : Disks D) : Type 0 where
   pub honest : AreHonest m old
   pub no_fault : (f : FileName) → ¬ Rose (m.faults (disk_of old f)) (m.faults (disk_of new f))

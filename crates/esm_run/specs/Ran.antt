@@ -1,4 +1,4 @@
--- What became of a command that runs a mapping before it was told. Only this crate's proofs cite this.
+-- What became of a command that runs a mapping, before its text is written. Only this crate's proofs cite this.
 use Rattle.std.specs.Prelude.{◌≡◌, ◌++◌, true, List, ℕ, Result, Ok, Err}
 use Rattle.esm_model.specs.declared.entry.Entry.{Entry}
 use Rattle.esm_model.specs.declared.memory.OutOfMemory.{OutOfMemory}
@@ -22,12 +22,12 @@ use Rattle.esm_run.specs.Reports.{redrive_report_text, replay_report_text}
 use Rattle.esm_run.specs.declared.left.Began.{Began}
 use Rattle.esm_run.specs.declared.left.Began.TheVariants as began
 
--- a run that was not stopped tells this ending
+-- the ending of a run that was not stopped
 abbrev pub IsEndingOf : Result MappingEnd OutOfMemory → Ending → Type 0
 IsEndingOf (Ok end) ending = ending ≡ ending_of end
 IsEndingOf (Err why) ending = ⊥
 
--- the same of a run over the turned lines of an input whose reading ended so
+-- the same of a run over turned lines, by how the reading of the input ended
 abbrev pub IsDdbEndingOf : InputTurned → Result MappingEnd OutOfMemory → Ending → Type 0
 IsDdbEndingOf turned (Ok end) ending = ending ≡ ending_of_ddb turned end
 IsDdbEndingOf turned (Err why) ending = ⊥
@@ -67,7 +67,7 @@ pub record IsRedriveReport (h : List Entry) (ending : Ending) (said : SaidLists)
   pub legal : LegalRedrive setting h
   pub text_is : text ≡ redrive_report_text setting h ending
 
--- the report of a replay that counts these records
+-- the report of a replay with these counts of records
 pub record IsReplayReport (h : List Entry) (ending : Ending) (counts : ReplayCounts) (text : List ℕ) : Type 0 where
   pub text_is : text ≡ replay_report_text counts h ending
 
@@ -79,13 +79,13 @@ IsReport h ending (began.Queue said) text = IsQueueReport h ending said text
 IsReport h ending (began.Redrive said) text = IsRedriveReport h ending said text
 IsReport h ending (began.Replay counts) text = IsReplayReport h ending counts text
 
--- the report, by what began, behind what is told of the history before it
+-- the text is what is printed of the history, and then the report, by what began
 pub record IsReportBehind (front : List ℕ) (h : List Entry) (ending : Ending) (b : Began) (text : List ℕ) : Type 0 where
   pub report : List ℕ
   pub is_report : IsReport h ending b report
   pub text_is : text ≡ front ++ report
 
--- a command came to this ending, for a cause of these, and its report is of what began
+-- a command ended so for one of these causes, and its text has the report of what began
 pub record EndsWith (cause : List ℕ → Ending → Type 0) (front : List ℕ) (h : List Entry) (b : Began) (ending : Ending) : Type 0 where
   pub ended : HasCome cause ending
   pub report : IsReportBehind front h ending b ended.text

@@ -1,6 +1,7 @@
--- How the command `redrive` ended, and what it left. A queue's mapping runs by one caller, and a message that was received as often
--- as it may be is moved to the dead-letter file, which is the failure file; the input is read first. Source: Amazon SQS Developer
--- Guide, "Using dead-letter queues"; that the file takes the place of a queue is this product's own.
+-- How the command `redrive` ended, and what it left. It reads its input first, and then runs a queue's mapping by one
+-- caller; a message that was received as often as it may be is moved to the dead-letter file, which is the failure file.
+-- Source: Amazon SQS Developer Guide, "Using dead-letter queues"; that the file takes the place of a queue is this product's
+-- own.
 use Rattle.std.specs.Prelude.{◌≡◌, ◌⊎◌, ◌++◌, ◌*◌, ◌<◌, ℕ, true, List, length, Option, Some, reverse, slice_get}
 use Rattle.esm_input.specs.declared.ending.InputEnd.{InputEnd}
 use Rattle.esm_input.specs.Positions.{from_start}
@@ -33,11 +34,11 @@ use Rattle.esm_run.specs.Reports.{redrive_report_text}
 use Rattle.esm_run.specs.World.{RunTells, Seen, Written}
 use Rattle.esm_run.specs.declared.asked.RedriveWords.{RedriveWords}
 
--- the mapping that the text gives, of a queue
+-- the mapping that the text gives, which is that of a queue
 abbrev pub redrive_asks : {D : Type 0} → RedriveWords → Asks D
 redrive_asks w = by_text Queue w.config
 
--- what the devices of a redrive tell
+-- what contracts see of the devices of a redrive
 abbrev pub redrive_tells : {S D F : Type 0} → RunTells S D F → redrive.Telling D F
 redrive_tells o = redrive.telling o.run.callers o.run.disk
 
@@ -45,12 +46,12 @@ redrive_tells o = redrive.telling o.run.callers o.run.disk
 abbrev pub redrive_disks : {S D F : Type 0} → Seen S D F → Disks D
 redrive_disks w = record { journal = w.disks.journal; spare = w.disks.spare; dead = w.disks.failures }
 
--- a message is hidden for so many milliseconds once it is received
+-- the words with the visibility timeout in milliseconds: how long a message is hidden once it is received
 abbrev pub words_of : RedriveWords → Config → Words
 words_of w config = record { config = config; calls = w.calls; visibility = w.visibility * 1000; max_receives = w.max_receives }
 
--- The files and the mapping were good, but a line of the dead-letter file is none of the queue's kind, the first such one: nothing
--- was read, called or written, and the last line alone is told.
+-- The files and the mapping were good, but a line of the dead-letter file is not one of the queue's kind. This is the first
+-- such line; nothing was read, called or written, and the text is the last line alone.
 pub record HasRefusedLine {S D F : Type 0} (o : RunTells S D F) (w : RedriveWords) (h : List Entry) (old new : Seen S D F) (text : List ℕ) (ending : Ending) : Type 0 where
   pub mapping : NamedMapping
   pub files : FilesState D
@@ -61,23 +62,23 @@ pub record HasRefusedLine {S D F : Type 0} (o : RunTells S D F) (w : RedriveWord
   pub tells : ending ≡ ending_of_redrive (end.BadLine index)
   pub text_is : text ≡ last_line ending
 
--- they were good, the redrive ran, and its report is told, behind its trace where that is asked for
+-- they were good, the redrive ran, and the text is its report, after its trace if that is asked for
 pub record IsRedriveRun {S D F : Type 0} (o : RunTells S D F) (w : RedriveWords) (h : List Entry) (old new : Seen S D F) (text : List ℕ) (ending : Ending) : Type 0 where
   pub mapping : NamedMapping
   pub files : FilesState D
   pub ready : IsReadyFor o.run.disk (redrive_asks w) old new mapping files
-  -- the one caller, and how it was left
+  -- the one caller, as it was and as it was left
   pub caller : F
   pub caller_left : F
   pub first_used : IsFirstUsed old.callers new.callers caller caller_left
-  -- how it ended, and why, with the redrive theorem of the run
+  -- how it ended, and why, with the theorem of the redrive
   pub end_is : RedriveEnd
   pub reading : Option InputEnd
   pub run : redrive.HasRun (redrive_tells o) o.faults o.left (words_of w mapping.config) files old.input new.input reading caller caller_left h (redrive_disks new) end_is
   pub tells : ending ≡ ending_of_redrive end_is
   pub text_is : text ≡ front_text w.trace mapping.config.kind h ++ redrive_report_text run.setting h ending
 
--- why `redrive` ended so, and what is told
+-- why `redrive` ended so, and with which text
 abbrev pub RedriveCause : {S D F : Type 0} → RunTells S D F → RedriveWords → List Entry → (old new : Seen S D F) → (text : List ℕ) → Ending → Type 0
 RedriveCause o w h old new text ending =
     HasNotRun o.run.disk (redrive_asks w) h old new text ending ⊎ (HasRefusedLine o w h old new text ending ⊎ IsRedriveRun o w h old new text ending)
@@ -86,9 +87,9 @@ RedriveCause o w h old new text ending =
 abbrev pub RedriveOutcome : {S D F : Type 0} → RunTells S D F → RedriveWords → Written → List Entry → (old new : Seen S D F) → (status : ℕ) → Type 0
 RedriveOutcome o w output h old new status = HasTold (RedriveCause o w h old new) output status
 
--- want of memory
+-- out of memory
 
--- it stopped the redrive
+-- an allocation failed in the redrive
 pub record IsStoppedRedrive {S D F : Type 0} (o : RunTells S D F) (w : RedriveWords) (h : List Entry) (old new : Seen S D F) : Type 0 where
   pub mapping : NamedMapping
   pub files : FilesState D
@@ -99,7 +100,7 @@ pub record IsStoppedRedrive {S D F : Type 0} (o : RunTells S D F) (w : RedriveWo
   pub reading : Option InputEnd
   pub run : redrive.HasStoppedRun (redrive_tells o) o.faults o.left (words_of w mapping.config) files old.input new.input reading caller caller_left h (redrive_disks new)
 
--- before anything came; in the run; or when the run had ended and was to be told
+-- an allocation failed before the run began, in the run, or when the run had ended and its text was to be written
 abbrev pub IsRedriveCut : {S D F : Type 0} → RunTells S D F → RedriveWords → List Entry → (old new : Seen S D F) → Type 0
 IsRedriveCut o w h old new =
     HasNotBegun o.run.disk (redrive_asks w) h old new
@@ -111,13 +112,13 @@ IsRedriveCut o w h old new =
 abbrev pub messages_given : Config → List ℕ → List Message
 messages_given config bytes = messages_in_items (from_start config.start (items_read (line_kind config) config.factor true bytes).items)
 
--- each message of which these payloads tell a deletion comes with the id that they kept of it
+-- each message for which these payloads have a deletion has the id that they kept of it
 abbrev pub HaveKeptIds : (payloads : List (List ℕ)) → List Message → Type 0
 HaveKeptIds payloads messages = (i : ℕ) (m : Message) (k : KeptFate) → slice_get messages i ≡ Some m → deletion_said (history (reverse payloads)) i ≡ Some k → m.id ≡ k.text
 
--- What a redrive is handed so that it comes to the end of its input with nothing left, where no device fails: the text of a
--- queue's mapping that may run; good files, a dead-letter file of lines of the queue's kind among them; a good input within the
--- limits whose messages have the ids that the journal kept of them; and more calls than its messages may be received.
+-- When a redrive ends with nothing left, if no device fails: the text is that of a queue's mapping that may run; the files
+-- are good, and the dead-letter file has lines of the queue's kind; the input is good and within the limits, and its
+-- messages have the ids that the journal kept; and there are more calls than the messages may be received.
 pub record MayComplete {S D F : Type 0} (o : RunTells S D F) (w : RedriveWords) (old : Seen S D F) : Type 0 where
   pub mapping : NamedMapping
   pub named : IsExpected Queue w.config mapping

@@ -1,4 +1,4 @@
--- How `serve` ends where the registry's file is refused. Only this crate's proofs cite this.
+-- How `serve` ends if the registry's file is refused. Only this crate's proofs cite this.
 use Rattle.std.specs.Prelude.{Result, Ok, Err}
 use Rattle.esm_journal.specs.declared.error.OpenError.{OpenError}
 use Rattle.esm_journal.specs.declared.error.OpenError.TheVariants as file
@@ -15,7 +15,7 @@ end_of_file (file.Damaged place) = Ok (end.Damaged place)
 end_of_file file.DiskFault = Ok end.OpenFault
 end_of_file file.OutOfMemory = Err (record {})
 
--- its payloads are none of a registry's
+-- its payloads are not those of a registry
 abbrev pub end_of_payloads : RegistryOpen → Result ServeEnd OutOfMemory
 end_of_payloads (payloads.BadPayload index) = Ok (end.BadPayload index)
 end_of_payloads payloads.OutOfMemory = Err (record {})

@@ -1,5 +1,5 @@
--- How the command `replay` ended, and what it left. The records that lines of the failure file name are called again, one call
--- after the other; the input is read first. This product's own.
+-- How the command `replay` ended, and what it left. It reads its input first, and then calls the records again that lines of
+-- the failure file name, one call after the other. This product's own.
 use Rattle.std.specs.Prelude.{◌≡◌, ◌⊎◌, ◌++◌, ℕ, Bool, List, Option}
 use Rattle.esm_input.specs.declared.ending.InputEnd.{InputEnd}
 use Rattle.esm_mapping.specs.declared.expected.Expected.TheVariants.{Stream}
@@ -20,11 +20,11 @@ use Rattle.esm_run.specs.FirstCaller.{IsFirstUsed}
 use Rattle.esm_run.specs.Reports.{replay_report_text}
 use Rattle.esm_run.specs.World.{RunTells, Seen, Written}
 
--- the mapping that the text gives, of a stream
+-- the mapping that the text gives, which is that of a stream
 abbrev pub replay_asks : {D : Type 0} → List ℕ → Asks D
 replay_asks config = by_text Stream config
 
--- what the devices of a replay tell
+-- what contracts see of the devices of a replay
 abbrev pub replay_tells : {S D F : Type 0} → RunTells S D F → replay.Telling D F
 replay_tells o = replay.telling o.run.callers o.run.disk
 
@@ -32,19 +32,19 @@ replay_tells o = replay.telling o.run.callers o.run.disk
 abbrev pub replay_disks : {S D F : Type 0} → Seen S D F → Disks D
 replay_disks w = record { journal = w.disks.journal; spare = w.disks.spare; failures = w.disks.failures }
 
--- The files and the mapping were good. Then a line of the failure file was refused, and nothing was read, called or written; or
--- the replay ran. Its report is told, behind its trace where that is asked for.
+-- The files and the mapping were good. Then either a line of the failure file was refused, and nothing was read, called or
+-- written; or the replay ran. The text is its report, after its trace if that is asked for.
 pub record IsReplayRun {S D F : Type 0} (o : RunTells S D F) (config : List ℕ) (calls : ℕ) (traced : Bool) (h : List Entry) (old new : Seen S D F) (text : List ℕ) (ending : Ending) : Type 0 where
   pub mapping : NamedMapping
   pub files : FilesState D
   pub ready : IsReadyFor o.run.disk (replay_asks config) old new mapping files
-  -- the one caller, and how it was left
+  -- the one caller, as it was and as it was left
   pub caller : F
   pub caller_left : F
   pub first_used : IsFirstUsed old.callers new.callers caller caller_left
-  -- How it ended, and why, with the replay theorem of the run: where nothing is left to call, as with status 0, each named record
-  -- was replayed or its last call left it; and the calls that the report and the caller's log tell are at most twice as many as
-  -- the named records that the report tells.
+  -- How it ended, and why, with the theorem of the replay: if nothing is left to call, as with status 0, each named record
+  -- was replayed or its last call left it; and the calls in the report and in the caller's log are at most twice as many as
+  -- the named records in the report.
   pub end : ReplayEnd
   pub reading : Option InputEnd
   pub counts : ReplayCounts
@@ -52,7 +52,7 @@ pub record IsReplayRun {S D F : Type 0} (o : RunTells S D F) (config : List ℕ)
   pub tells : ending ≡ ending_of_replay end
   pub text_is : text ≡ front_text traced kind.Stream h ++ replay_report_text counts h ending
 
--- why `replay` ended so, and what is told
+-- why `replay` ended so, and with which text
 abbrev pub ReplayCause : {S D F : Type 0} → RunTells S D F → (config : List ℕ) → (calls : ℕ) → (traced : Bool) → List Entry → (old new : Seen S D F) → (text : List ℕ) → Ending → Type 0
 ReplayCause o config calls traced h old new text ending =
     HasNotRun o.run.disk (replay_asks config) h old new text ending ⊎ IsReplayRun o config calls traced h old new text ending
@@ -61,9 +61,9 @@ ReplayCause o config calls traced h old new text ending =
 abbrev pub ReplayOutcome : {S D F : Type 0} → RunTells S D F → (config : List ℕ) → (calls : ℕ) → (traced : Bool) → Written → List Entry → (old new : Seen S D F) → (status : ℕ) → Type 0
 ReplayOutcome o config calls traced output h old new status = HasTold (ReplayCause o config calls traced h old new) output status
 
--- want of memory
+-- out of memory
 
--- it stopped the replay
+-- an allocation failed in the replay
 pub record IsStoppedReplay {S D F : Type 0} (o : RunTells S D F) (config : List ℕ) (calls : ℕ) (h : List Entry) (old new : Seen S D F) : Type 0 where
   pub mapping : NamedMapping
   pub files : FilesState D
@@ -75,7 +75,7 @@ pub record IsStoppedReplay {S D F : Type 0} (o : RunTells S D F) (config : List 
   pub counts : ReplayCounts
   pub run : replay.HasStoppedRun (replay_tells o) o.faults o.left mapping.config calls files old.input new.input reading caller caller_left h counts (replay_disks new)
 
--- before anything came; in the run; or when the run had ended and was to be told
+-- an allocation failed before the run began, in the run, or when the run had ended and its text was to be written
 abbrev pub IsReplayCut : {S D F : Type 0} → RunTells S D F → (config : List ℕ) → (calls : ℕ) → (traced : Bool) → List Entry → (old new : Seen S D F) → Type 0
 IsReplayCut o config calls traced h old new =
     HasNotBegun o.run.disk (replay_asks config) h old new

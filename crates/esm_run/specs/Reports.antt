@@ -1,5 +1,5 @@
--- The reports of a redrive and of a replay: a line for the messages or the records, a line for the calls, and the last line, which
--- tells how it ended. Each line ends with a line feed. This product's own.
+-- The reports of a redrive and of a replay: a line for the messages or the records, a line for the calls, and the last line,
+-- which says how the run ended. Each line ends with a line feed. This product's own.
 use Rattle.std.specs.Prelude.{ℕ, List, ◌++◌, if◌then◌else◌}
 use Rattle.esm_model.specs.declared.entry.Entry.{Entry}
 use Rattle.esm_redrive_model.specs.RedriveReport.{redrive_text}
@@ -10,7 +10,7 @@ use Rattle.esm_report.specs.Queue as queue
 use Rattle.esm_report.specs.Report.{calls_text, last_line, line, stands_alone}
 use Rattle.esm_report.specs.declared.ending.Ending.{Ending}
 
--- the report of a history (newest entry first) and an ending; where nothing ran, the last line is all
+-- the report of a history (newest entry first) and an ending; if nothing ran, it is the last line alone
 
 abbrev pub redrive_report_text : RedriveSetting → List Entry → Ending → List ℕ
 redrive_report_text s h ending = if stands_alone ending then queue.last_line ending else line (redrive_text s h) ++ line (calls_text h) ++ queue.last_line ending

@@ -1,4 +1,4 @@
--- How `serve` ended: why, what it left of the registry's file, what was told, and with which exit status. This product's own.
+-- How `serve` ended: why, what it left of the registry's file, what was written, and the exit status. This product's own.
 use Rattle.std.specs.Prelude.{◌≡◌, ◌⊎◌, ◌≤◌, ℕ, Bool, true, false, List, [], ◌∷◌, ◌++◌, length, codes, Some}
 use Rattle.std.specs.Fmt.{decimal}
 use Rattle.std.specs.Option.{option_to_list}
@@ -42,7 +42,7 @@ last_line stop.Done = codes "done"
 last_line stop.DiskFault = codes "disk fault"
 last_line stop.DoorFault = codes "door fault"
 
--- so many connections were accepted, and the last line
+-- how many connections were accepted, and the last line
 abbrev pub served_text : ℕ → List ℕ → List ℕ
 served_text count line = codes "served " ++ decimal count ++ codes "\n" ++ line ++ codes "\n"
 
@@ -63,7 +63,7 @@ pub record IsOpened {D : Type 0} (m : DiskMeaning D) (disk : D) (registry : Regi
   pub kept : KeepsWhileUp m registry.journal
   pub only_read : IsOnlyRead m disk registry.journal.disk
 
--- the file opens to the payloads followed by a front of these, each whole
+-- the file opens to the payloads followed by a prefix of `more`, each whole
 pub record OpensToFront (payloads more : List (List ℕ)) (bytes : List ℕ) : Type 0 where
   pub front : List (List ℕ)
   pub rest : List (List ℕ)
@@ -80,14 +80,15 @@ pub record IsOfCommand (gave : ℕ → Bool) (mappings : Mappings) (payload : Li
   pub given : gave moment ≡ true
   pub written : (step mappings asked moment).payload ≡ Some payload
 
--- the registry's journal over this disk has the payloads found followed by these
+-- the registry's journal over this disk has the payloads found, followed by `more`
 pub record HoldsMore {C D : Type 0} (o : ServeTells C D) (disk : D) (found more : List (List ℕ)) (registry : RegistryState D) : Type 0 where
   pub payloads : registry.journal.payloads ≡ found ++ more
-  -- a crash now leaves exactly them; after a call that failed, them or one more
+  -- a crash now leaves exactly these; after a call that failed, these or one more
   pub kept : KeepsWhileUp o.disk registry.journal
   pub stopped : KeepsWhileDown o.disk registry.journal
-  -- a crash at any moment since the opening left what it left before, or the payloads found and a front of these, each whole;
-  -- one further payload was being written by a call that failed, that of a command which the mappings accept that are left
+  -- a crash at any moment since the opening left what one might have left before it, or the payloads found and a prefix of
+  -- `more`, each whole; if a call failed while it wrote one further payload, that one may follow, and it is of a command
+  -- that the mappings which are left accept
   pub further : List (List ℕ)
   pub no_further : registry.journal.down ≡ false → further ≡ []
   pub at_most_one : length further ≤ 1
@@ -103,7 +104,7 @@ pub record IsUnserved {D : Type 0} (m : DiskMeaning D) (old new : D) (door : Doo
   pub no_connection : door.after ≡ door.before
   pub no_call : door.faults_now ≡ door.faults_before
 
--- the file opened, connections were served over its registry, and why no more were
+-- the file opened, connections were served over its registry, and this is why no more were
 pub record HasServed {C D : Type 0} (o : ServeTells C D) (old new : D) (door : DoorSeen) (requests : ℕ) (accepted : Accepted) : Type 0 where
   pub first : RegistryState D
   pub last : RegistryState D
@@ -113,7 +114,7 @@ pub record HasServed {C D : Type 0} (o : ServeTells C D) (old new : D) (door : D
   pub journal : HoldsMore o old first.journal.payloads (payloads_of served.connections) last
   pub stop : StopsFor (o.disk.faults old) (o.disk.faults new) last.journal.down door requests accepted.count accepted.stop
 
--- the payload with this index is the first in the file that is none of a registry's
+-- the payload with this index is the first in the file that is not one of a registry
 abbrev pub HasBadPayload : ℕ → List ℕ → Type 0
 HasBadPayload index bytes = (payloads : List (List ℕ)) × OpensTo (header_of 1) payloads bytes × IsFirstBad payloads index
 
@@ -130,15 +131,15 @@ pub record ServeOutcome {C D : Type 0} (o : ServeTells C D) (old new : D) (door 
   pub cause : IsServeEnd o old new door requests end
   pub told : IsToldWith output.faults_before output.faults_now output.before output.after (serve_text end) (serve_status end) OUTPUT_FAULT status
 
--- the registry's disk is honest, and neither its count of faults nor the door's rose or stands at its last value
+-- the registry's disk is honest, and neither its count of faults nor the door's rose or is at its greatest value
 pub record IsSoundServe {C D : Type 0} (o : ServeTells C D) (old new : D) (door : DoorSeen) : Type 0 where
   pub honest : o.disk.honest old ≡ true
   pub no_disk_fault : ¬ Rose (o.disk.faults old) (o.disk.faults new)
   pub no_door_fault : ¬ Rose door.faults_before door.faults_now
 
--- want of memory
+-- out of memory
 
--- the file opened, and want of memory stopped the serving of connections, or what was to be told of it
+-- the file opened, and an allocation failed while connections were served, or when the text was to be written
 pub record HasServedUpTo {C D : Type 0} (o : ServeTells C D) (old new : D) (door : DoorSeen) : Type 0 where
   pub first : RegistryState D
   pub last : RegistryState D
@@ -147,6 +148,6 @@ pub record HasServedUpTo {C D : Type 0} (o : ServeTells C D) (old new : D) (door
   pub disk_is : new ≡ last.journal.disk
   pub journal : HoldsMore o old first.journal.payloads (payloads_of (served.connections ++ option_to_list served.stopped_with)) last
 
--- it stopped before a connection was accepted, or later
+-- an allocation failed before a connection was accepted, or later
 abbrev pub IsServeCut : {C D : Type 0} → ServeTells C D → (old new : D) → DoorSeen → Type 0
 IsServeCut o old new door = IsUnserved o.disk old new door ⊎ HasServedUpTo o old new door

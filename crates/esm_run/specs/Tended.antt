@@ -1,5 +1,5 @@
--- The commands over the four files alone: why they ended so, what they left of the files, what was told, and with which
--- exit status. This product's own.
+-- The commands that use only the four files: why they ended so, what they left of the files, what was written, and the exit
+-- status. This product's own.
 use Rattle.std.specs.Prelude.{◌≡◌, ◌⊎◌, ℕ, true}
 use Rattle.esm_cli.specs.declared.command.Command.{Command}
 use Rattle.esm_cli.specs.declared.command.Command.TheVariants as command
@@ -19,7 +19,7 @@ use Rattle.esm_run.specs.Endings.{IsToldWith}
 use Rattle.esm_run.specs.Initialized.{AreSound, InitOutcome, OUTPUT_FAULT}
 use Rattle.esm_run.specs.World.{Written}
 
--- the command of the words
+-- the command that the words spell
 
 abbrev pub upkeep_command : Upkeep → Command
 upkeep_command Show = command.Show
@@ -31,7 +31,7 @@ abbrev pub command_of : FilesCommand → Command
 command_of files.Init = command.Init
 command_of (files.Upkeep upkeep) = upkeep_command upkeep
 
--- In each definition below the disks come first as they were handed in, and then as they were handed back.
+-- Each definition below takes the disks first as they were handed in, and then as they were handed back.
 
 -- why a command over the journals ended so
 abbrev pub IsUpkeepEnd : {D : Type 0} → DiskMeaning D → Upkeep → (old new : Disks D) → UpkeepEnd → Type 0
@@ -52,7 +52,7 @@ FilesOutcome m old new output (files.Upkeep upkeep) status = UpkeepOutcome m old
 
 -- the files, whatever the status
 
--- those that the command uses: `show` and `failures` only read them; of `compact` and `migrate` a crash at any moment
+-- the files that the command uses: `show` and `failures` only read them; a crash at any moment of `compact` or `migrate`
 -- leaves the old list or the one that they write
 abbrev pub AreTended : {D : Type 0} → DiskMeaning D → Upkeep → (old new : Disks D) → Type 0
 AreTended m Show old new = AreOnlyRead m old.journal old.spare new.journal new.spare
@@ -74,11 +74,11 @@ abbrev pub AreLeft : {D : Type 0} → DiskMeaning D → (old new : Disks D) → 
 AreLeft m old new files.Init = AreSafe m old new
 AreLeft m old new (files.Upkeep upkeep) = IsLeft m old new upkeep
 
--- want of memory left the pair of `compact` as it was, or only what was to be told was missing
+-- if memory ran out, `compact` left the pair as it was, or it ended and only its text was not written
 abbrev pub IsCompactCut : {D : Type 0} → DiskMeaning D → (old new : Disks D) → Type 0
 IsCompactCut m old new = AreOnlyRead m old.journal old.spare new.journal new.spare ⊎ ((end : UpkeepEnd) × IsUpkeepEnd m Compact old new end)
 
--- the disks that a command uses are honest, and their counts of faults neither rose nor stand at their last value
+-- the disks that a command uses are honest, and no count of their faults rose or is at its greatest value
 
 pub record IsSoundDisk {D : Type 0} (m : DiskMeaning D) (old new : D) : Type 0 where
   pub honest : m.honest old ≡ true

@@ -1,5 +1,5 @@
--- What devices tell, each time as one value, so that a contract is handed one argument for it, and what is seen of a world
--- before and after a command. This product's own.
+-- What contracts see of devices, in one value for each purpose, so that a contract takes one argument for it; and what they
+-- see of a world before and after a command. This product's own.
 use Rattle.std.specs.Prelude.{ℕ, Bool, List, Option, reverse}
 use Rattle.esm_ddb.specs.Event.{ddb_event}
 use Rattle.esm_ddb.specs.FailureLine.{ddb_line}
@@ -21,31 +21,31 @@ use Rattle.esm_runner.specs.Headline.{Devices, Telling, telling}
 use Rattle.esm_run.specs.declared.left.RunDevices.{RunDevices}
 use Rattle.esm_run.specs.declared.world.World.{World}
 
--- what the devices of a world tell
+-- what contracts see of the devices of a world
 
 -- of an input, an output, a disk, a caller, a door and a connection
 pub record DevicesTell (S K D F L N : Type 0) : Type 1 where
   -- which moments the clock gave
   pub gave : ℕ → Bool
-  -- what a caller sends for an event, and the calls that it logged, where it tells them
+  -- what a caller sends for an event, and the calls that it logged, if they are visible
   pub sends : List ℕ → List ℕ
   pub log : F → Option (List Called)
   -- what a disk means
   pub disk : DiskMeaning D
-  -- how often the input failed, and its bytes that are left, where it tells them
+  -- how often the input failed, and the bytes that are left of it, if they are visible
   pub input_faults : S → ℕ
   pub left : S → Option (List ℕ)
-  -- how often the output failed, and what it took, where it tells that
+  -- how often the output failed, and what it took, if that is visible
   pub output_faults : K → ℕ
   pub written : K → Option (List ℕ)
-  -- how often the door failed, and the connections that it closed, where it tells them
+  -- how often the door failed, and the connections that it closed, if they are visible
   pub door_faults : L → ℕ
   pub closed : L → Option (List Closed)
-  -- what a connection tells, and how often it failed
+  -- what was read and written on a connection, if that is visible, and how often it failed
   pub talk : N → Option Talk
   pub link_faults : N → ℕ
 
--- by the members of their traits
+-- the devices whose traits have these members
 abbrev pub devices : {S K D C F L N : Type 0} → Clock C → Caller F → Disk D → Source S → Sink K → Door L N → Link N → DevicesTell S K D F L N
 devices clock caller disk source sink door link = record {
   gave = clock.gave;
@@ -62,8 +62,7 @@ devices clock caller disk source sink door link = record {
   link_faults = link.faults;
 }
 
--- what those of a run tell: of the clock, the callers and the disks, and of the input; its failure lines are delivered as they
--- are
+-- the same of a run's devices: the clock, the callers, the disks and the input; failure lines are delivered as they are
 pub record RunTells (S D F : Type 0) : Type 1 where
   pub run : Telling D F
   pub faults : S → ℕ
@@ -72,13 +71,14 @@ pub record RunTells (S D F : Type 0) : Type 1 where
 abbrev pub run_tells : {S D C F : Type 0} → Clock C → Caller F → Disk D → Source S → RunTells S D F
 run_tells clock caller disk source = record { run = telling (outside clock.gave caller.sends caller.log) (meaning disk) (λ line. line); faults = source.faults; left = source.left }
 
--- the same of a run over a DynamoDB stream: of each event its callers are handed `ddb_event`, with its elements in place of the
--- records, and of each line its failure file is handed `ddb_line`, with the table's name; each may leave one as it is
+-- the same of a run over a DynamoDB stream: its callers get `ddb_event` of each event, with the records' own elements in
+-- place of the records, and its failure file `ddb_line` of each line, with the table's name; either may leave its text as it
+-- is
 abbrev pub ddb_tells : {S D F : Type 0} → RunTells S D F → Telling D F
 ddb_tells o = telling (outside o.run.callers.gave (λ event. o.run.callers.sends (ddb_event event)) o.run.callers.log) o.run.disk ddb_line
 
--- what those of `serve` tell: which moments the clock gave, what connections tell, how often they failed, and what the
--- registry's disk means
+-- the same of the devices of `serve`: which moments the clock gave, what was read and written on a connection, how often it
+-- failed, and what the registry's disk means
 pub record ServeTells (C D : Type 0) : Type 1 where
   pub gave : ℕ → Bool
   pub told : C → Option Talk
@@ -94,7 +94,7 @@ of_run t = record { run = telling (outside t.gave t.sends t.log) t.disk (λ line
 abbrev pub of_serve : {S K D F L N : Type 0} → DevicesTell S K D F L N → ServeTells N D
 of_serve t = record { gave = t.gave; told = t.talk; faults = t.link_faults; disk = t.disk }
 
--- what is seen of a world
+-- what contracts see of a world
 
 -- its disks
 abbrev pub disks : {D : Type 0} → (journal spare failures registry : D) → Disks D
@@ -121,7 +121,7 @@ devices_left run registry = record { input = run.input; journal = run.journal; s
 abbrev pub devices_of : {S D F : Type 0} → Seen S D F → Devices D F
 devices_of w = record { journal = w.disks.journal; spare = w.disks.spare; failures = w.disks.failures; callers = w.callers }
 
--- an output before and after
+-- an output before and after a command
 pub record Written : Type 0 where
   pub faults_before : ℕ
   pub faults_now : ℕ
@@ -131,7 +131,7 @@ pub record Written : Type 0 where
 abbrev pub written_of : {K : Type 0} → (faults : K → ℕ) → (written : K → Option (List ℕ)) → (old new : K) → Written
 written_of faults written old new = record { faults_before = faults old; faults_now = faults new; before = written old; after = written new }
 
--- a door before and after: its count of faults, and the connections that were closed, where it tells them
+-- a door before and after a command: its count of faults, and the connections that it closed, if they are visible
 pub record DoorSeen : Type 0 where
   pub faults_before : ℕ
   pub faults_now : ℕ
@@ -141,7 +141,7 @@ pub record DoorSeen : Type 0 where
 abbrev pub door_of : {L : Type 0} → (faults : L → ℕ) → (closed : L → Option (List Closed)) → (old new : L) → DoorSeen
 door_of faults closed old new = record { faults_before = faults old; faults_now = faults new; before = closed old; after = closed new }
 
--- the same of the world itself; its history is written newest entry first
+-- the same of the world itself; its history is taken newest entry first
 
 abbrev pub history : {S K D C F L : Type 0} → World S K D C F L → List Entry
 history w = reverse w.trace.items

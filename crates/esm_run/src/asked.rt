@@ -10,8 +10,8 @@ use esm_cli::{Command, RunWords, WordsError};
 use esm_model::Text;
 use std::alloc::Global;
 
-/// The words of `redrive`: the mapping's text, how often a message may be received, the greatest number of calls, and the
-/// visibility timeout; how long a call may take; both in seconds; and whether the trace is told.
+/// The words of `redrive`: the mapping's text, how often a message may be received, the greatest number of calls, the
+/// visibility timeout and the time limit of a call, both in seconds, and whether the trace is printed.
 #[derive(Drop)]
 pub struct RedriveWords {
     pub config: Text,
@@ -22,31 +22,31 @@ pub struct RedriveWords {
     pub trace: bool,
 }
 
-/// What words ask for, by what it is over.
+/// What the words ask for, by what the command works on.
 #[derive(Drop)]
 pub enum Asked {
-    /// A command over the four files alone.
+    /// A command that uses only the four files.
     Files(FilesCommand),
-    /// That so many connections are served.
+    /// Serving this many connections.
     Serve {
         requests: u32,
     },
-    /// That a generated stream of so many records runs.
+    /// Running a generated stream of this many records.
     Gen {
         records: u32,
     },
     /// A run.
     Run(RunWords),
-    /// That the mapping of a DynamoDB stream runs, with so many calls at most.
+    /// Running the mapping of a DynamoDB stream, with at most this many calls.
     Ddb {
         config: Text,
         calls: u32,
         timeout: u32,
         trace: bool,
     },
-    /// That a queue's mapping runs, and moves what was received too often to the dead-letter file.
+    /// Running a queue's mapping, and moving what was received too often to the dead-letter file.
     Redrive(RedriveWords),
-    /// That the records that failure lines name are called again, with so many calls at most.
+    /// Calling the records again that failure lines name, with at most this many calls.
     Replay {
         config: Text,
         calls: u32,
@@ -57,7 +57,7 @@ pub enum Asked {
     Nothing(WordsError),
 }
 
-/// What a command that is built asks for.
+/// Returns what a command that is built asks for.
 fn part(command: Command) -> Asked
     requires { is_built command ≡ true }
     ensures { AsksFor command result }
@@ -111,7 +111,8 @@ fn part(command: Command) -> Asked
     }
 }
 
-/// What the words ask for. `BadWords` exactly where they spell no command that is built.
+/// Reads what the words ask for: `Nothing(BadWords)` if they spell no command that is built, `Nothing(OutOfMemory)` if an
+/// allocation failed.
 pub fn asked_by(alloc: Global, words: &[String]) -> Asked
     ensures { IsAsked (map string_bytes words.now) result }
 {

@@ -1,4 +1,4 @@
-// The command that the words of the command line spell, where this program has it built.
+// Reads the command that the words of the command line spell, if it is built.
 ghost use Rattle.std.specs.Prelude.{◌≡◌, map, IfOk};
 ghost use Rattle.std.specs.String.{string_bytes};
 ghost use Rattle.esm_cli.specs.declared.command.Command.{Command};
@@ -27,7 +27,8 @@ fn is_built(command: &Command) -> bool
     }
 }
 
-/// The command that the words spell. `BadWords` exactly where they spell none that is built.
+/// Reads the command that the words spell. `BadWords` if they spell none that is built; `OutOfMemory` if an allocation
+/// failed.
 pub fn built_command(alloc: Global, words: &[String]) -> Result<Command, WordsError>
     ensures spelled { IfOk result (SpellsBuilt (map string_bytes words.now)) }
     ensures bad { result ≡ Err WordsError.BadWords → (c : Command) → ¬ SpellsBuilt (map string_bytes words.now) c }

@@ -21,7 +21,7 @@ use std::alloc::Global;
 use std::sync::Wait;
 use std::thread::Threads;
 
-/// Tells of an ending that stands alone, and answers the exit status.
+/// Writes the report of an ending that is the last line alone, and returns the exit status.
 fn tell_alone<K: Sink>(alloc: Global, out: &mut K, ending: &Ending) -> u8
     requires { stands_alone ending.now ≡ true }
     ensures told { result ≢ 70 → IsTold (K.faults out.old) (K.faults out.new) (K.written out.old) (K.written out.new) (last_line ending.now) ending.now result }
@@ -34,7 +34,7 @@ fn tell_alone<K: Sink>(alloc: Global, out: &mut K, ending: &Ending) -> u8
     tell(out, &text, ending)
 }
 
-/// Tells why the words were refused, and answers the exit status.
+/// Writes why the words were refused, and returns the exit status.
 fn tell_refusal<K: Sink>(alloc: Global, out: &mut K, why: WordsError) -> u8
     ensures told { result ≢ 70 → (why ≡ WordsError.BadWords) × IsTold (K.faults out.old) (K.faults out.new)
         (K.written out.old) (K.written out.new) (last_line BadWords) BadWords result }
@@ -46,8 +46,8 @@ fn tell_refusal<K: Sink>(alloc: Global, out: &mut K, why: WordsError) -> u8
     }
 }
 
-/// Tells that the words spell no command that is built, and hands the world back with the exit status. Only the output
-/// changes.
+/// Writes that the words spell no command that is built, or nothing if memory ran out, and hands the world back with the
+/// exit status. Only the output changes.
 pub fn refuse<S, K: Sink, D, C, F, L>(
     alloc: Global,
     why: WordsError,
@@ -64,7 +64,7 @@ pub fn refuse<S, K: Sink, D, C, F, L>(
     Ended { status, world }
 }
 
-/// Runs the mapping that the words name, tells how it ended, and hands the world back with the exit status.
+/// Runs the mapping that the words name, writes its report, and hands the world back with the exit status.
 pub fn run<
     R: Threads + Wait + Sync,
     S: Source + Send,

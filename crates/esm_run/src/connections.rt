@@ -28,8 +28,8 @@ pub struct Accepted {
     pub stop: Stop,
 }
 
-/// Serves a connection that was accepted, at the moment of the clock, and hands it to the door, also where want of memory
-/// left it without an answer.
+/// Serves an accepted connection at the moment of the clock, and passes it to the door to be closed, even if memory ran out
+/// before it was answered.
 fn serve_connection<D: Disk, C: Clock, L: Door>(
     alloc: Global,
     clock: &C,
@@ -57,7 +57,7 @@ fn serve_connection<D: Disk, C: Clock, L: Door>(
     }
 }
 
-/// Accepts so many connections, and serves and closes one after the other. It ends before where the door fails or a call
+/// Accepts `requests` connections, and serves and closes one after the other. It stops earlier if the door fails or a call
 /// of the registry's disk failed.
 pub fn serve_connections<D: Disk, C: Clock, L: Door>(
     alloc: Global,

@@ -1,4 +1,4 @@
-// The command `ddb`: running the mapping of a DynamoDB stream, and telling how the run ended.
+// The command `ddb`: runs the mapping of a DynamoDB stream, and writes how the run ended.
 ghost use Rattle.std.specs.Prelude.{◌≡◌, ◌≢◌, length, reverse};
 ghost use Rattle.esm_model.specs.declared.limits.TheConstants.{MAX_LANES};
 ghost use Rattle.esm_run.specs.Ddb.{DdbOutcome, IsDdbCut};
@@ -13,7 +13,8 @@ use std::alloc::Global;
 use std::sync::Wait;
 use std::thread::Threads;
 
-/// Runs the mapping of a DynamoDB stream that the text is, tells how it ended, and hands the world back with the exit status.
+/// Runs the mapping of a DynamoDB stream, which `text` is, writes how it ended, and hands the world back with the exit
+/// status.
 pub fn ddb<
     R: Threads + Wait + Sync,
     S: Source,

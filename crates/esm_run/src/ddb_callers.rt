@@ -1,11 +1,11 @@
-// The callers of a DynamoDB stream's run over those of the world, and back.
+// Wraps the world's callers for the run of a DynamoDB stream, and unwraps them.
 ghost use Rattle.std.specs.Prelude.{◌≡◌, ◌≤◌, [], length, vec_capacity};
 ghost use Rattle.esm_run.specs.Under.{callers_under};
 
 use esm_ddb::DdbCaller;
 use esm_io::Caller;
 
-/// The callers are handed to callers over them, in their order. Takes no memory, and their own vector keeps its room.
+/// Moves the callers into callers over them, in their order. Takes no memory, and the callers' vector keeps its capacity.
 pub fn wrap<F: Caller>(callers: &mut Vec<F>, wrapped: &mut Vec<DdbCaller<F>>)
     requires room { (wrapped.old.items ≡ []) × (length callers.old.items ≤ vec_capacity wrapped.old) }
     ensures taken { callers.new.items ≡ [] }
@@ -18,7 +18,7 @@ pub fn wrap<F: Caller>(callers: &mut Vec<F>, wrapped: &mut Vec<DdbCaller<F>>)
     wrapped.reverse();
 }
 
-/// The callers below, in their order. Takes no memory.
+/// Moves the callers below back into their vector, in their order. Takes no memory.
 pub fn unwrap<F: Caller>(mut wrapped: Vec<DdbCaller<F>>, callers: &mut Vec<F>)
     requires empty { callers.old.items ≡ [] }
     requires room { length wrapped.items ≤ vec_capacity callers.old }

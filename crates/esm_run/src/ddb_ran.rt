@@ -1,4 +1,4 @@
-// The run of `ddb`: its files are opened, its mapping is read, its input is turned, and it runs over the turned lines.
+// The run of `ddb`: opens its files, reads its mapping, turns its input, and runs the mapping over the turned lines.
 ghost use Rattle.std.specs.Prelude.{◌≡◌, ◌≤◌, Ok, true, [], length, reverse, vec_capacity, IfErr, IfOk, OnErr};
 ghost use Rattle.esm_ddb.specs.Translating.{source_of};
 ghost use Rattle.esm_ddb.specs.TurnedInput.{IsTurnedInput};
@@ -29,8 +29,8 @@ use std::alloc::Global;
 use std::sync::Wait;
 use std::thread::Threads;
 
-/// What a run is made of besides its opened devices: the lines that its input became, why the reading of the input ended, room
-/// for its callers, and the room that they need while they are recorded.
+/// What a run needs besides its opened devices: the turned lines of its input, why the reading of the input ended, room for
+/// its callers, and the room that these need while they are recorded.
 struct Prepared<F: Caller> {
     lines: TurnedText,
     end: InputTurned,
@@ -98,7 +98,8 @@ fn prepare<R: Threads + Sync, S: Source, F: Caller>(
     }
 }
 
-/// How the run over the turned lines ended, and the devices that it left. The callers below are handed back into this vector.
+/// Makes the result of the run over the turned lines: how it ended, and the devices that it left. The callers below go back
+/// into `callers`.
 fn ddb_ran<S, D, F: Caller>(
     alloc: Global,
     traced: Traced<TurnedText, D, DdbCaller<F>>,
@@ -154,7 +155,7 @@ fn ddb_ran<S, D, F: Caller>(
     }
 }
 
-/// Runs the mapping over the turned lines and the opened files. No call begins before the end of the lines was noted.
+/// Runs the mapping over the turned lines and the opened files. No call begins before the end of the lines is noted.
 fn run_prepared<
     R: Threads + Wait + Sync,
     S: Source,
@@ -275,7 +276,7 @@ fn run_mapping<
     }
 }
 
-/// Reads the mapping that the text is over the opened files, and runs it.
+/// Reads the mapping that `text` is, over the opened files, and runs it.
 fn run_opened<
     R: Threads + Wait + Sync,
     S: Source,
@@ -307,7 +308,7 @@ fn run_opened<
     }
 }
 
-/// Opens the files of a run, reads the mapping of a DynamoDB stream that the text is, and runs it with its input read first.
+/// Opens the files of a run, reads the mapping of a DynamoDB stream, which `text` is, and runs it with its input read first.
 pub fn run_ddb<
     R: Threads + Wait + Sync,
     S: Source,

@@ -1,7 +1,7 @@
-// The first caller, taken out of the callers and put back.
+// Takes the first caller out of the callers, and puts it back.
 ghost use Rattle.std.specs.Prelude.{◌≡◌, ◌<◌, ◌∷◌, length, reverse, vec_capacity};
 
-/// Takes the first caller out; the others are left in the opposite order. Takes no memory.
+/// Takes the first caller out, and leaves the others in reverse order. Takes no memory.
 pub fn take_first<F>(callers: &mut Vec<F>) -> F
     requires { 0 < length callers.old.items }
     ensures first { callers.old.items ≡ result ∷ reverse callers.new.items }
@@ -11,7 +11,7 @@ pub fn take_first<F>(callers: &mut Vec<F>) -> F
     callers.pop().unwrap()
 }
 
-/// Puts the first caller back before the others. Takes no memory.
+/// Puts the first caller back before the others, which are in reverse order. Takes no memory.
 pub fn put_first<F>(callers: &mut Vec<F>, first: F)
     requires { length callers.old.items < vec_capacity callers.old }
     ensures { callers.new.items ≡ first ∷ reverse callers.old.items }

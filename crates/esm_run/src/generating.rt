@@ -1,4 +1,4 @@
-// The command `gen`: a generated stream's run over devices of its own, the report that it prints and its exit status.
+// The command `gen`: runs a generated stream over devices of its own, prints its report and returns the exit status.
 ghost use Rattle.std.specs.Prelude.{◌≡◌, ◌≢◌, reverse, IsOkAnd};
 ghost use Rattle.esm_gen.specs.Run.{HasRun};
 ghost use Rattle.esm_run.specs.Endings.{IsToldWith};
@@ -14,10 +14,10 @@ use std::alloc::Global;
 use std::sync::Wait;
 use std::thread::Threads;
 
-/// Every record has its fate, and the report was told.
+/// The exit status if every record has its fate and the report was written.
 const DONE: u8 = 0;
 
-/// Tells the report, and answers the exit status.
+/// Writes the report, and returns the exit status.
 fn tell_report<K: Sink>(out: &mut K, report: Result<Vec<u8>, OutOfMemory>) -> u8
     ensures told { result ≢ 70 → IsOkAnd report (λ text. IsToldWith (K.faults out.old) (K.faults out.new)
         (K.written out.old) (K.written out.new) text.items 0 OUTPUT_FAULT result) }
@@ -33,7 +33,7 @@ fn tell_report<K: Sink>(out: &mut K, report: Result<Vec<u8>, OutOfMemory>) -> u8
     }
 }
 
-/// Runs a generated stream of so many records, tells its report, and hands the world back with the exit status. Only the
+/// Runs a generated stream of `records` records, writes its report, and hands the world back with the exit status. Only the
 /// output and the history change.
 pub fn generate<R: Threads + Wait + Sync, S, K: Sink, D, C, F, L>(
     rt: &R,

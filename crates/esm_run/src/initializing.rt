@@ -1,4 +1,4 @@
-// Making the four files that the program keeps by the `init` command, and telling how that ended.
+// The command `init`: makes the four files that the program keeps, and writes how that ended.
 ghost use Rattle.std.specs.Prelude.{◌≡◌, ◌≢◌, Ok};
 ghost use Rattle.esm_io.specs.Meanings.{disk as meaning};
 ghost use Rattle.esm_folder.specs.Init.{AreSafe};
@@ -15,13 +15,13 @@ use esm_io::{Disk, Sink};
 use esm_model::OutOfMemory;
 use std::alloc::Global;
 
-/// A file is not empty.
+/// The exit status if a file is not empty.
 const NOT_EMPTY: u8 = 8;
 
-/// A disk failed.
+/// The exit status if a disk failed.
 const DISK_FAULT: u8 = 6;
 
-/// The exit status that tells how `init` ended.
+/// Returns the exit status for the end of `init`.
 fn init_status(end: InitEnd) -> u8
     ensures { result ≡ init_status end }
 {
@@ -32,7 +32,7 @@ fn init_status(end: InitEnd) -> u8
     }
 }
 
-/// Tells how `init` ended, and answers the exit status.
+/// Writes how `init` ended, and returns the exit status.
 fn tell_init<K: Sink>(alloc: Global, out: &mut K, end: Result<InitEnd, OutOfMemory>) -> u8
     ensures told { result ≢ 70 → (e : InitEnd) × (end ≡ Ok e) × IsToldWith (K.faults out.old) (K.faults out.new)
         (K.written out.old) (K.written out.new) (init_text e) (init_status e) OUTPUT_FAULT result }
@@ -51,7 +51,7 @@ fn tell_init<K: Sink>(alloc: Global, out: &mut K, end: Result<InitEnd, OutOfMemo
     }
 }
 
-/// Makes the four files of the world's disks, tells how it ended, and hands the world back with the exit status.
+/// Makes the four files of the world's disks, writes how that ended, and hands the world back with the exit status.
 pub fn initialize<S, K: Sink, D: Disk, C, F, L>(
     alloc: Global,
     world: World<S, K, D, C, F, L>,

@@ -1,4 +1,4 @@
-// What became of a command that runs a mapping, before it is told.
+// What became of a command that runs a mapping, before its text is written.
 ghost use Rattle.std.specs.Prelude.{◌≡◌, [], Ok, IfOk};
 ghost use Rattle.esm_run.specs.Ran.{IsEndingOf};
 ghost use Rattle.esm_run.specs.World.{devices_left};
@@ -24,20 +24,20 @@ pub struct RunDevices<S, D, F> {
     pub callers: Vec<F>,
 }
 
-/// What began, with what its journal said before.
+/// What began, with what its journal said before that.
 #[derive(Drop)]
 pub enum Began {
     Nothing,
     Stream(Says),
     Queue(Says),
-    /// A redrive, with what its journal said before.
+    /// A redrive.
     Redrive(Says),
-    /// A replay, which counts these records.
+    /// A replay, with its counts of records.
     Replay(ReplayCounts),
 }
 
-/// What became of a command that runs a mapping, `run`, `ddb`, `redrive` or `replay`: how it ended, what began, what is told of
-/// its history before the report, its history with the oldest entry first, and the devices as they were left.
+/// What became of a command that runs a mapping (`run`, `ddb`, `redrive` or `replay`): how it ended, what began, what is
+/// printed of its history before the report, its history (oldest entry first), and the devices as they were left.
 #[derive(Drop)]
 pub struct Ran<S, D, F> {
     pub end: Result<Ending, OutOfMemory>,
@@ -47,7 +47,7 @@ pub struct Ran<S, D, F> {
     pub devices: RunDevices<S, D, F>,
 }
 
-/// No run began, and these devices are left.
+/// Makes the result of a run that did not begin and left these devices.
 pub fn not_begun<S, D, F>(
     alloc: Global,
     end: Result<Ending, OutOfMemory>,
@@ -68,13 +68,14 @@ pub fn not_begun<S, D, F>(
     }
 }
 
-/// How a run ended, and what is told before its report.
+/// How a run ended, and what is printed before its report.
 pub struct Fronted<E> {
     pub end: Result<E, OutOfMemory>,
     pub front: Vec<u8>,
 }
 
-/// A run ended so where there was memory for what is told before its report.
+/// Joins how a run ended with what is printed before its report. Memory that ran out for either ends the run with
+/// `OutOfMemory`.
 pub fn with_front<E: Drop>(
     alloc: Global,
     end: Result<E, OutOfMemory>,
@@ -94,8 +95,8 @@ pub fn with_front<E: Drop>(
     }
 }
 
-/// A run that ended, with what its journal said before and what is told before its report, and its devices, the registry's disk
-/// among them.
+/// A run that ended, with what its journal said before, what is printed before its report, and its devices, the registry's
+/// disk among them.
 struct Left<S, D, F> {
     end: Result<Ending, OutOfMemory>,
     said: Says,
@@ -104,7 +105,7 @@ struct Left<S, D, F> {
     devices: RunDevices<S, D, F>,
 }
 
-/// How the run of a mapping ended, and the devices that it left.
+/// Makes the result of the run of a mapping: how it ended, and the devices that it left.
 fn left_by<S, D, F>(alloc: Global, traced: Traced<S, D, F>, registry: D) -> Left<S, D, F>
     ensures ended { IfOk result.end (λ e. IsEndingOf traced.run.end e × (traced.front ≡ Ok result.front)) }
     ensures said { result.said ≡ traced.run.said }
@@ -144,7 +145,7 @@ fn left_by<S, D, F>(alloc: Global, traced: Traced<S, D, F>, registry: D) -> Left
     }
 }
 
-/// How the run of a stream's mapping ended, and the devices that it left.
+/// Makes the result of the run of a stream's mapping: how it ended, and the devices that it left.
 pub fn stream_ran<S, D, F>(alloc: Global, traced: Traced<S, D, F>, registry: D) -> Ran<S, D, F>
     ensures ended { IfOk result.end (λ e. IsEndingOf traced.run.end e × (traced.front ≡ Ok result.front)) }
     ensures began { result.began ≡ began.Stream traced.run.said }
@@ -167,7 +168,7 @@ pub fn stream_ran<S, D, F>(alloc: Global, traced: Traced<S, D, F>, registry: D) 
     }
 }
 
-/// How the run of a queue's mapping ended, and the devices that it left.
+/// Makes the result of the run of a queue's mapping: how it ended, and the devices that it left.
 pub fn queue_ran<S, D, F>(alloc: Global, traced: Traced<S, D, F>, registry: D) -> Ran<S, D, F>
     ensures ended { IfOk result.end (λ e. IsEndingOf traced.run.end e × (traced.front ≡ Ok result.front)) }
     ensures began { result.began ≡ began.Queue traced.run.said }

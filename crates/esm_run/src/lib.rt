@@ -1,4 +1,4 @@
-//! The top call: what a command's words do to the world. It composes the crates below by their public contracts.
+//! The top call: what the words of a command do to the world. It composes the crates below by their public contracts.
 #![tactic(auto)]
 
 mod asked;

@@ -1,4 +1,4 @@
-// The devices of a run whose files were opened, and the same closed where no run began.
+// The devices of a run whose files were opened, and the same with the files closed if no run begins.
 ghost use Rattle.std.specs.Prelude.{◌≡◌, []};
 ghost use Rattle.esm_io.specs.Meanings.{disk as meaning};
 ghost use Rattle.esm_runner.specs.Files.{AreUnwritten};
@@ -21,7 +21,7 @@ pub struct Opened<S, D: Disk, F> {
     pub callers: Vec<F>,
 }
 
-/// No run began over opened files, which are closed.
+/// Closes the opened files, over which no run began.
 pub fn closed<S, D: Disk, F>(
     alloc: Global,
     end: Result<Ending, OutOfMemory>,

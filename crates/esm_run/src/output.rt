@@ -1,4 +1,4 @@
-// Writing the text of a command to its output, with the exit status that tells of the ending.
+// Writes the text of a command to its output, and returns the exit status of its ending.
 ghost use Rattle.std.specs.Prelude.{◌≡◌, ◌≤◌, OnOk, OnErr};
 ghost use Rattle.esm_io.specs.Told.{Grows};
 ghost use Rattle.esm_report.specs.declared.ending.Ending.TheVariants.{BadWords};
@@ -7,16 +7,16 @@ ghost use Rattle.esm_run.specs.Endings.{status_of, failed_status_of, IsCutShort,
 use esm_io::{Failed, Sink};
 use esm_report::Ending;
 
-/// Bad words.
+/// The exit status of bad words.
 const BAD_WORDS: u8 = 2;
 
-/// The output failed.
+/// The exit status if the output failed.
 pub const OUTPUT_FAULT: u8 = 5;
 
-/// Want of memory.
+/// The exit status if memory ran out.
 pub const OUT_OF_MEMORY: u8 = 70;
 
-/// The exit status that tells of an ending.
+/// Returns the exit status of an ending.
 fn status_of(ending: &Ending) -> u8
     ensures value { result ≡ status_of ending.now }
     ensures words { result ≡ 2 → ending.now ≡ BadWords }
@@ -42,7 +42,7 @@ fn status_of(ending: &Ending) -> u8
     }
 }
 
-/// The exit status where the output failed.
+/// Returns the exit status if the output failed.
 fn failed_status_of(ending: &Ending) -> u8
     ensures value { result ≡ failed_status_of ending.now }
     ensures words { result ≡ 2 → ending.now ≡ BadWords }
@@ -54,7 +54,7 @@ fn failed_status_of(ending: &Ending) -> u8
     }
 }
 
-/// Writes all of the text. After a failed write a part from its front was taken.
+/// Writes all of the text. After a failed write, the output took a prefix of it.
 pub fn write_all<K: Sink>(out: &mut K, text: &[u8]) -> Result<(), Failed>
     ensures written { OnOk result (Grows (K.written out.old) (K.written out.new) text.now) }
     ensures cut_short { OnErr result (IsCutShort (K.faults out.old) (K.faults out.new)
@@ -68,7 +68,7 @@ pub fn write_all<K: Sink>(out: &mut K, text: &[u8]) -> Result<(), Failed>
     Ok(())
 }
 
-/// Writes the text of an ending, and answers the status. Where the output fails the status is 5, but for bad words.
+/// Writes the text of an ending, and returns the exit status: 5 if the output fails, unless the ending is bad words.
 pub fn tell<K: Sink>(out: &mut K, text: &[u8], ending: &Ending) -> u8
     ensures told { IsTold (K.faults out.old) (K.faults out.new) (K.written out.old) (K.written out.new)
         text.now ending.now result }

@@ -1,4 +1,4 @@
-// The world of a command that runs a mapping, taken apart for the run, and put together again once its end is told.
+// Takes the world of a command that runs a mapping apart for the run, and puts it together again once its text is written.
 ghost use Rattle.std.specs.Prelude.{◌≡◌, ◌≢◌, ℕ, List, true, reverse, Ok, IfOk};
 ghost use Rattle.esm_report.specs.Report.{stands_alone};
 ghost use Rattle.esm_report.specs.declared.ending.Ending.{Ending};
@@ -16,14 +16,14 @@ use esm_model::{Entry, OutOfMemory};
 use esm_report::{Ending, last_line, queue_report, report};
 use std::alloc::Global;
 
-/// What the run of a mapping does not use of a world.
+/// The part of a world that the run of a mapping does not use, except for the clock.
 pub struct Rest<K, C, L> {
     pub out: K,
     pub clock: C,
     pub door: L,
 }
 
-/// The devices of a run, and the rest of the world.
+/// Splits the world into the devices of a run and the rest.
 pub fn parted<S, K, D, C, F, L>(
     world: World<S, K, D, C, F, L>,
 ) -> (RunDevices<S, D, F>, Rest<K, C, L>)
@@ -60,7 +60,7 @@ pub fn parted<S, K, D, C, F, L>(
     (devices, Rest { out, clock, door })
 }
 
-/// The report of an ending, by what began.
+/// Writes the report of an ending, by what began.
 fn report_of(
     alloc: Global,
     began: &Began,
@@ -79,7 +79,7 @@ fn report_of(
     }
 }
 
-/// What is told of an ending: the report, by what began, behind what is told before it.
+/// Writes the text of an ending: what is printed of the history (`front`), and then the report, by what began.
 fn text_of(
     alloc: Global,
     front: Vec<u8>,
@@ -96,7 +96,7 @@ fn text_of(
     Ok(text)
 }
 
-/// Tells how a run ended, and answers the exit status.
+/// Writes how a run ended, and returns the exit status.
 fn tell_end<K: Sink>(
     alloc: Global,
     out: &mut K,
@@ -121,7 +121,7 @@ fn tell_end<K: Sink>(
     tell(out, &text, ending)
 }
 
-/// Tells how a run ended, and hands the world back with the exit status.
+/// Writes how a run ended, and hands the world back with the exit status.
 pub fn told<S, K: Sink, D, C, F, L>(
     alloc: Global,
     ran: Ran<S, D, F>,

@@ -1,4 +1,4 @@
-// The options of `run`: its files are opened, its mapping is read, and it runs.
+// The options of `run`: opens the files, reads the mapping, and runs it.
 ghost use Rattle.std.specs.Prelude.{◌≡◌, length, reverse, IfOk, OnErr};
 ghost use Rattle.esm_io.specs.Meanings.{disk as meaning};
 ghost use Rattle.esm_mapping.specs.Named.{IsNamed, MayRun};
@@ -33,8 +33,8 @@ fn is_stream(kind: Kind) -> bool
     }
 }
 
-/// Runs the mapping that the words name, a stream's or a queue's, over the opened files, its callers recorded in this room. A
-/// queue's messages are hidden for the seconds of `--visibility` once they are received.
+/// Runs the mapping that the words name, a stream's or a queue's, over the opened files, with its callers recorded in this
+/// room. A queue's message is hidden for the seconds of `--visibility` once it is received.
 fn run_recorded<
     R: Threads + Wait + Sync,
     S: Source + Send,

@@ -1,4 +1,4 @@
-// The command `redrive`: running a queue's mapping with a dead-letter file, and telling how the run ended.
+// The command `redrive`: runs a queue's mapping with a dead-letter file, and writes how the run ended.
 ghost use Rattle.std.specs.Prelude.{◌≡◌, ◌≢◌, ◌≤◌, length, reverse};
 ghost use Rattle.esm_model.specs.declared.limits.TheConstants.{MAX_LANES};
 ghost use Rattle.esm_redrive.specs.declared.limited.TheConstants.{MAX_RECEIVES};
@@ -14,8 +14,8 @@ use std::alloc::Global;
 use std::sync::Wait;
 use std::thread::Threads;
 
-/// Runs the mapping of a queue that the text of the words is, and moves a message that was received as often as it may be to the
-/// dead-letter file; tells how the run ended, and hands the world back with the exit status.
+/// Runs the mapping of a queue, which the text of the words is, and moves each message that was received as often as it may
+/// be to the dead-letter file. Then writes how the run ended, and hands the world back with the exit status.
 pub fn redrive<R: Threads + Wait + Sync, S: Source, K: Sink, D: Disk, C: Clock, F: Caller, L: Door>(
     rt: &R,
     alloc: Global,

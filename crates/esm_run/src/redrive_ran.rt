@@ -1,4 +1,4 @@
-// The run of `redrive`: its files are opened, its mapping is read, and its queue runs with a dead-letter file.
+// The run of `redrive`: opens its files, reads its mapping, and runs its queue with a dead-letter file.
 ghost use Rattle.std.specs.Prelude.{◌≡◌, Ok, ◌≤◌, false, length, reverse, IfOk, OnErr};
 ghost use Rattle.esm_mapping.specs.Named.{IsExpected, MayRun};
 ghost use Rattle.esm_mapping.specs.declared.expected.Expected.TheVariants.{Queue};
@@ -25,7 +25,7 @@ use std::alloc::Global;
 use std::sync::Wait;
 use std::thread::Threads;
 
-/// How the redrive ended, and the devices that it left.
+/// Makes the result of the redrive: how it ended, and the devices that it left.
 fn redrive_ran<S, D, F>(
     alloc: Global,
     run: RedriveRun<S, D>,
@@ -70,8 +70,8 @@ fn redrive_ran<S, D, F>(
     }
 }
 
-/// Runs the queue's mapping by the first caller over the opened files. A message is hidden for the seconds of `--visibility` once
-/// it is received.
+/// Runs the queue's mapping by the first caller over the opened files. A message is hidden for the seconds of `--visibility`
+/// once it is received.
 fn run_mapping<R: Threads + Wait + Sync, S: Source, D: Disk, C: Clock, F: Caller>(
     rt: &R,
     alloc: Global,
@@ -121,7 +121,7 @@ fn run_mapping<R: Threads + Wait + Sync, S: Source, D: Disk, C: Clock, F: Caller
     redrive_ran(alloc, run, front, registry, callers)
 }
 
-/// Reads the mapping that the text of the words is over the opened files, and runs it.
+/// Reads the mapping that the text of the words is, over the opened files, and runs it.
 fn run_opened<R: Threads + Wait + Sync, S: Source, D: Disk, C: Clock, F: Caller>(
     rt: &R,
     alloc: Global,
@@ -146,7 +146,8 @@ fn run_opened<R: Threads + Wait + Sync, S: Source, D: Disk, C: Clock, F: Caller>
     }
 }
 
-/// Opens the files of a run, reads the mapping of a queue that the text of the words is, and runs it with a dead-letter file.
+/// Opens the files of a run, reads the mapping of a queue, which the text of the words is, and runs it with a dead-letter
+/// file.
 pub fn run_redrive_words<R: Threads + Wait + Sync, S: Source, D: Disk, C: Clock, F: Caller>(
     rt: &R,
     alloc: Global,

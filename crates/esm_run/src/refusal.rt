@@ -1,4 +1,4 @@
-// Why a run refused its lines, files or mapping, as the ending that its report tells.
+// Turns the reason why a run refused its lines, files or mapping into the ending of its report.
 ghost use Rattle.std.specs.Prelude.{◌≡◌, ◌++◌, Some, IfOk, OnErr};
 ghost use Rattle.esm_config.specs.Names.{name_of};
 ghost use Rattle.esm_input.specs.declared.ending.InputEnd.{InputEnd};
@@ -26,7 +26,7 @@ fn text_of(alloc: Global, text: &str) -> Result<Text, OutOfMemory>
     Ok(Text::from_vec(String::from_str(alloc, text)?))
 }
 
-/// Two texts, one after the other.
+/// Joins two texts.
 fn joined(alloc: Global, first: &str, second: &str) -> Result<Text, OutOfMemory>
     ensures { IfOk result (λ t. t ≡ first.now ++ second.now) }
 {
@@ -35,7 +35,7 @@ fn joined(alloc: Global, first: &str, second: &str) -> Result<Text, OutOfMemory>
     Ok(Text::from_vec(text))
 }
 
-/// The refusal of a sequence number that is not greater than the shard's last one.
+/// Writes the refusal of a sequence number that is not greater than the shard's last one.
 fn backwards(alloc: Global, kept: &str, given: &str) -> Result<Text, OutOfMemory>
     ensures { IfOk result (λ t. t ≡ why_text (Backwards kept.now given.now)) }
 {
@@ -46,7 +46,7 @@ fn backwards(alloc: Global, kept: &str, given: &str) -> Result<Text, OutOfMemory
     Ok(Text::from_vec(text))
 }
 
-/// Why a line was refused, as the report tells it.
+/// Writes why a line was refused, as the report has it.
 fn why_text(alloc: Global, why: &LineError) -> Result<Text, OutOfMemory>
     ensures { IfOk result (λ t. t ≡ why_text why.now) }
 {
@@ -68,8 +68,8 @@ fn bad_parameter(alloc: Global, param: Param) -> Result<Ending, OutOfMemory>
     Ok(Ending::BadParameter { name })
 }
 
-/// The ending of a run in which every record or message that came has its fate, or of a replay in which nothing is left to
-/// call.
+/// Returns the ending of a run that left nothing: every record or message that arrived has its fate, or a replay has nothing
+/// left to call.
 fn ending_of_reading(alloc: Global, end: InputEnd) -> Result<Ending, OutOfMemory>
     ensures { IfOk result (λ ending. ending ≡ ending_of_reading end) }
 {
@@ -87,7 +87,7 @@ fn ending_of_reading(alloc: Global, end: InputEnd) -> Result<Ending, OutOfMemory
     }
 }
 
-/// Why a line of a DynamoDB stream was refused, as the report tells it.
+/// Writes why a line of a DynamoDB stream was refused, as the report has it.
 fn ddb_why_text(alloc: Global, why: DdbError) -> Result<Text, OutOfMemory>
     ensures { IfOk result (λ t. t ≡ ddb_why_text why) }
 {
@@ -99,7 +99,7 @@ fn ddb_why_text(alloc: Global, why: DdbError) -> Result<Text, OutOfMemory>
     }
 }
 
-/// The ending of a run in which every record that was turned has its fate.
+/// Returns the ending of a run in which every record of the turned lines has its fate.
 fn ending_of_turned(alloc: Global, end: InputTurned) -> Result<Ending, OutOfMemory>
     ensures { IfOk result (λ ending. ending ≡ ending_of_turned end) }
 {
@@ -116,7 +116,8 @@ fn ending_of_turned(alloc: Global, end: InputTurned) -> Result<Ending, OutOfMemo
     }
 }
 
-/// The ending of the run of a DynamoDB stream's mapping over the lines that its input became, the reading of which ended so.
+/// Returns the ending of the run of a DynamoDB stream's mapping over turned lines; `turned` says how the reading of the
+/// input ended.
 pub fn ending_of_ddb(
     alloc: Global,
     turned: InputTurned,
@@ -130,7 +131,7 @@ pub fn ending_of_ddb(
     }
 }
 
-/// The ending of a redrive's run. Memory is taken for the text of a bad line alone.
+/// Returns the ending of a redrive's run. Takes memory only for the text of a bad line; `OutOfMemory` if that failed.
 pub fn ending_of_redrive(alloc: Global, end: RedriveEnd) -> Result<Ending, OutOfMemory>
     ensures { IfOk result (λ ending. ending ≡ ending_of_redrive end) }
 {
@@ -147,7 +148,7 @@ pub fn ending_of_redrive(alloc: Global, end: RedriveEnd) -> Result<Ending, OutOf
     }
 }
 
-/// The ending of a replay's run. Memory is taken for the text of a bad line alone.
+/// Returns the ending of a replay's run. Takes memory only for the text of a bad line; `OutOfMemory` if that failed.
 pub fn ending_of_replay(alloc: Global, end: ReplayEnd) -> Result<Ending, OutOfMemory>
     ensures { IfOk result (λ ending. ending ≡ ending_of_replay end) }
 {
@@ -163,7 +164,7 @@ pub fn ending_of_replay(alloc: Global, end: ReplayEnd) -> Result<Ending, OutOfMe
     }
 }
 
-/// The ending of a mapping's run. Memory is taken for the text of a bad line alone.
+/// Returns the ending of a mapping's run. Takes memory only for the text of a bad line; `OutOfMemory` if that failed.
 pub fn ending_of(alloc: Global, end: MappingEnd) -> Result<Ending, OutOfMemory>
     ensures told { IfOk result (λ ending. ending ≡ ending_of end) }
     ensures memory { OnErr result ((why : InputEnd) × (end ≡ MappingEnd.Finished why)) }
@@ -186,7 +187,7 @@ fn file_of(file: JournalFile) -> FileName
     }
 }
 
-/// The ending of a run whose files were refused.
+/// Returns the ending of a run whose files were refused, or `OutOfMemory` if they were refused for that.
 pub fn ending_of_files(why: FilesError) -> Result<Ending, OutOfMemory>
     ensures told { IfOk result (λ ending. ending_of_files why ≡ Some ending) }
     ensures memory { OnErr result (why ≡ FilesError.OutOfMemory) }
@@ -208,7 +209,8 @@ pub fn ending_of_files(why: FilesError) -> Result<Ending, OutOfMemory>
     }
 }
 
-/// The ending of a run whose mapping was refused.
+/// Returns the ending of a run whose mapping was refused, or `OutOfMemory` if it was refused for that or its parameter's
+/// name could not be copied.
 pub fn ending_of_mapping(alloc: Global, why: MappingError) -> Result<Ending, OutOfMemory>
     ensures { IfOk result (λ ending. ending_of_mapping why ≡ Some ending) }
 {

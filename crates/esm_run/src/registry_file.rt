@@ -1,4 +1,4 @@
-// Serving connections over the registry that is read from its file, and how that ended.
+// Reads the registry from its file, and serves connections over it.
 ghost use Rattle.std.specs.Prelude.{◌≡◌, false, IfOk, OnErr};
 ghost use Rattle.esm_io.specs.Meanings.{disk as meaning};
 ghost use Rattle.esm_run.specs.Refusals.{end_of_file, end_of_payloads};
@@ -15,15 +15,15 @@ use std::alloc::Global;
 /// How `serve` ended.
 #[derive(Clone, Copy, Debug, PartialEq, Eq)]
 pub enum ServeEnd {
-    /// The registry's file does not begin with a journal's header.
+    /// The registry's file does not begin with the header of a journal.
     NotAJournal,
     /// It is damaged at this place, in bytes from its start.
     Damaged { place: u64 },
-    /// Its payload with this index is the first that is none of a registry's.
+    /// Its payload with this index, counted from 0, is the first that is not one of a registry.
     BadPayload { index: u32 },
     /// Its disk's count of faults rose while it was opened.
     OpenFault,
-    /// So many connections were accepted.
+    /// Connections were served: how many were accepted, and why no more.
     Served(Accepted),
 }
 
@@ -34,7 +34,7 @@ pub struct ServedFile<D> {
     pub disk: D,
 }
 
-/// The end where the file was not opened.
+/// The end if the file was not opened.
 fn end_of_file(why: OpenError) -> Result<ServeEnd, OutOfMemory>
     ensures { result ≡ end_of_file why }
 {
@@ -46,7 +46,7 @@ fn end_of_file(why: OpenError) -> Result<ServeEnd, OutOfMemory>
     }
 }
 
-/// The end where the file's payloads are none of a registry's.
+/// The end if a payload of the file is not one of a registry.
 fn end_of_payloads(why: RegistryOpen) -> Result<ServeEnd, OutOfMemory>
     ensures { result ≡ end_of_payloads why }
 {
@@ -56,7 +56,7 @@ fn end_of_payloads(why: RegistryOpen) -> Result<ServeEnd, OutOfMemory>
     }
 }
 
-/// Serves so many connections over a registry that was opened, from whichever disk.
+/// Serves `requests` connections over a registry that was opened, from whichever disk.
 fn serve_registry<D: Disk, C: Clock, L: Door>(
     alloc: Global,
     requests: u32,
@@ -87,7 +87,7 @@ fn serve_registry<D: Disk, C: Clock, L: Door>(
     }
 }
 
-/// Opens the registry's file, and serves so many connections over what it says.
+/// Opens the registry's file, and serves `requests` connections over what it says.
 pub fn serve_file<D: Disk, C: Clock, L: Door>(
     alloc: Global,
     requests: u32,

@@ -1,4 +1,4 @@
-// The command `replay`: calling records again that failure lines name, and telling how that ended.
+// The command `replay`: calls the records again that failure lines name, and writes how that ended.
 ghost use Rattle.std.specs.Prelude.{◌≡◌, ◌≢◌, length, reverse};
 ghost use Rattle.esm_model.specs.declared.limits.TheConstants.{MAX_LANES};
 ghost use Rattle.esm_run.specs.Replay.{IsReplayCut, ReplayOutcome};
@@ -13,8 +13,8 @@ use std::alloc::Global;
 use std::sync::Wait;
 use std::thread::Threads;
 
-/// Calls the records again that lines of the failure file name, over the mapping of a stream that the text is; tells how that
-/// ended, and hands the world back with the exit status.
+/// Calls the records again that lines of the failure file name, under the mapping of a stream, which `text` is. Then writes
+/// how that ended, and hands the world back with the exit status.
 pub fn replay<R: Threads + Wait + Sync, S: Source, K: Sink, D: Disk, C: Clock, F: Caller, L: Door>(
     rt: &R,
     alloc: Global,

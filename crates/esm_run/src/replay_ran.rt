@@ -1,4 +1,4 @@
-// The run of `replay`: its files are opened, its mapping is read, and the records that failure lines name are called again.
+// The run of `replay`: opens its files, reads its mapping, and calls the records again that failure lines name.
 ghost use Rattle.std.specs.Prelude.{◌≡◌, Ok, true, length, reverse, IfOk, OnErr};
 ghost use Rattle.esm_mapping.specs.Named.{IsExpected, MayRun};
 ghost use Rattle.esm_mapping.specs.declared.expected.Expected.TheVariants.{Stream};
@@ -23,7 +23,7 @@ use std::alloc::Global;
 use std::sync::Wait;
 use std::thread::Threads;
 
-/// How the replay ended, and the devices that it left.
+/// Makes the result of the replay: how it ended, and the devices that it left.
 fn replay_ran<S, D, F>(
     alloc: Global,
     run: ReplayRun<S, D>,
@@ -69,7 +69,7 @@ fn replay_ran<S, D, F>(
     }
 }
 
-/// Calls the records again that lines of the opened failure file name, by the first caller.
+/// Calls the records again, by the first caller, that lines of the opened failure file name.
 fn run_mapping<R: Threads + Wait + Sync, S: Source, D: Disk, C: Clock, F: Caller>(
     rt: &R,
     alloc: Global,
@@ -110,7 +110,7 @@ fn run_mapping<R: Threads + Wait + Sync, S: Source, D: Disk, C: Clock, F: Caller
     replay_ran(alloc, run, front, registry, callers)
 }
 
-/// Reads the mapping that the text is over the opened files, and runs it.
+/// Reads the mapping that `text` is, over the opened files, and runs it.
 fn run_opened<R: Threads + Wait + Sync, S: Source, D: Disk, C: Clock, F: Caller>(
     rt: &R,
     alloc: Global,
@@ -136,7 +136,8 @@ fn run_opened<R: Threads + Wait + Sync, S: Source, D: Disk, C: Clock, F: Caller>
     }
 }
 
-/// Opens the files of a run, reads the mapping of a stream that the text is, and calls the records again that lines of the failure file name.
+/// Opens the files of a run, reads the mapping of a stream, which `text` is, and calls the records again that lines of the
+/// failure file name.
 pub fn run_replay_words<R: Threads + Wait + Sync, S: Source, D: Disk, C: Clock, F: Caller>(
     rt: &R,
     alloc: Global,

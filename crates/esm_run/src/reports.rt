@@ -25,7 +25,8 @@ fn push_replay(out: &mut Vec<u8>, counts: &ReplayCounts, trace: &[Entry]) -> Res
     Ok(())
 }
 
-/// The report of a replay that counts these records, whose history is `trace`, the oldest entry first, and that ended so.
+/// Writes the report of a replay with these counts of records, whose history is `trace` (oldest entry first), and which
+/// ended so.
 pub fn replay_report(
     alloc: Global,
     counts: &ReplayCounts,
@@ -54,7 +55,7 @@ fn push_change(out: &mut Vec<u8>, change: &Change) -> Result<(), OutOfMemory>
     Ok(())
 }
 
-/// Writes the last line of a redrive's report: a message that changed is told as a queue's.
+/// Appends the last line of a redrive's report, in which a message that changed is one of a queue.
 fn push_redrive_end(out: &mut Vec<u8>, ending: &Ending) -> Result<(), OutOfMemory>
     ensures { OnOk result (out.new.items ≡ out.old.items ++ last_line ending.now) }
 {
@@ -80,8 +81,8 @@ fn push_messages(
     Ok(())
 }
 
-/// The report of a redrive whose history is `trace`, the oldest entry first, and that ended so, where the journal said `said`
-/// before.
+/// Writes the report of a redrive whose history is `trace` (oldest entry first) and which ended so; `said` is what the
+/// journal said before.
 pub fn redrive_report(
     alloc: Global,
     said: &Says,

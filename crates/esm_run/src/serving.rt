@@ -1,4 +1,4 @@
-// The command `serve`: its connections, the lines that it prints and its exit status.
+// The command `serve`: serves its connections, prints its lines and returns the exit status.
 ghost use Rattle.std.specs.Prelude.{◌≡◌, ◌≢◌, Ok, IfOk};
 ghost use Rattle.esm_run.specs.Endings.{IsToldWith};
 ghost use Rattle.esm_run.specs.Serve.{IsServeCut, ServeOutcome, last_line, serve_status, serve_text, served_text, stop_status};
@@ -13,16 +13,16 @@ use esm_io::{Clock, Disk, Door, Sink};
 use esm_model::{FileName, OutOfMemory};
 use std::alloc::Global;
 
-/// A file is no journal, is damaged, or has a bad payload.
+/// The exit status if a file is no journal, is damaged, or has a bad payload.
 const BAD_FILE: u8 = 8;
 
-/// A disk failed.
+/// The exit status if a disk failed.
 const DISK_FAULT: u8 = 6;
 
-/// The door failed.
+/// The exit status if the door failed.
 const DOOR_FAULT: u8 = 11;
 
-/// The exit status that tells why no more connections were accepted.
+/// Returns the exit status for why no more connections were accepted.
 fn stop_status(stop: Stop) -> u8
     ensures value { result ≡ stop_status stop }
     ensures good_words { result ≢ 2 }
@@ -35,7 +35,7 @@ fn stop_status(stop: Stop) -> u8
     }
 }
 
-/// The exit status that tells how `serve` ended.
+/// Returns the exit status for the end of `serve`.
 fn serve_status(end: ServeEnd) -> u8
     ensures value { result ≡ serve_status end }
     ensures good_words { result ≢ 2 }
@@ -50,7 +50,7 @@ fn serve_status(end: ServeEnd) -> u8
     }
 }
 
-/// The last line, where connections were accepted.
+/// The last line, if the registry's file opened.
 fn last_line(stop: Stop) -> &'static str
     ensures { result.now ≡ last_line stop }
 {
@@ -61,14 +61,14 @@ fn last_line(stop: Stop) -> &'static str
     }
 }
 
-/// The two lines that are printed where so many connections were accepted.
+/// Writes the two lines that are printed if `count` connections were accepted.
 fn served_text(alloc: Global, count: u32, line: &str) -> Result<Vec<u8>, OutOfMemory>
     ensures { IfOk result (λ text. text.items ≡ served_text count line.now) }
 {
     Ok(format!(in alloc; "served {count}\n{line}\n")?.into_bytes())
 }
 
-/// What `serve` prints.
+/// Writes what `serve` prints.
 fn serve_text(alloc: Global, end: ServeEnd) -> Result<Vec<u8>, OutOfMemory>
     ensures { IfOk result (λ text. text.items ≡ serve_text end) }
 {
@@ -86,7 +86,7 @@ fn serve_text(alloc: Global, end: ServeEnd) -> Result<Vec<u8>, OutOfMemory>
     }
 }
 
-/// Tells how `serve` ended, and answers the exit status.
+/// Writes how `serve` ended, and returns the exit status.
 fn tell_serve<K: Sink>(alloc: Global, out: &mut K, end: Result<ServeEnd, OutOfMemory>) -> u8
     ensures told { result ≢ 70 → (e : ServeEnd) × (end ≡ Ok e) × IsToldWith (K.faults out.old) (K.faults out.new)
         (K.written out.old) (K.written out.new) (serve_text e) (serve_status e) OUTPUT_FAULT result }
@@ -105,8 +105,8 @@ fn tell_serve<K: Sink>(alloc: Global, out: &mut K, end: Result<ServeEnd, OutOfMe
     }
 }
 
-/// Serves so many connections of the world's door over its registry, tells how it ended, and hands the world back with the
-/// exit status.
+/// Serves `requests` connections of the world's door over its registry, writes how that ended, and hands the world back with
+/// the exit status.
 pub fn serve<S, K: Sink, D: Disk, C: Clock, F, L: Door>(
     alloc: Global,
     requests: u32,

@@ -1,4 +1,4 @@
-// The failure file of a DynamoDB stream's run, as the destination of a stream's.
+// The failure file of a DynamoDB stream's run, as a destination for the lines of a stream's run.
 ghost use Rattle.std.specs.Prelude.{◌≡◌};
 ghost use Rattle.esm_ddb.specs.FailureLine.{ddb_line};
 
@@ -7,7 +7,7 @@ use esm_io::Dest;
 use esm_runner::FailureFile;
 use std::alloc::Global;
 
-/// A failure file that is handed each line with `DDBStreamBatchInfo` in place of `KinesisBatchInfo`.
+/// A failure file that gets each line with `DDBStreamBatchInfo` in place of `KinesisBatchInfo`.
 pub struct TableFailures;
 
 impl<T: Dest + Send> FailureFile<T> for TableFailures {

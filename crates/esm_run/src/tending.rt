@@ -1,4 +1,4 @@
-// The commands over a folder's files alone: `init`, `show`, `failures`, `compact` and `migrate`.
+// The commands that use only a folder's files: `init`, `show`, `failures`, `compact` and `migrate`.
 ghost use Rattle.std.specs.Prelude.{◌≡◌, ◌≢◌, Ok, IfOk, OnErr};
 ghost use Rattle.esm_io.specs.Meanings.{disk as meaning};
 ghost use Rattle.esm_folder.specs.UpkeepText.{upkeep_status, upkeep_text};
@@ -27,7 +27,7 @@ pub enum Upkeep {
     Migrate,
 }
 
-/// A command over the four files alone.
+/// A command that uses only the four files.
 #[derive(Clone, Copy, Debug, PartialEq, Eq)]
 pub enum FilesCommand {
     Init,
@@ -41,7 +41,7 @@ struct Tended<D> {
     disks: Disks<D>,
 }
 
-/// A pair's end, beside the two other disks.
+/// Joins the end of a command over the pair with the two other disks.
 fn beside<D>(pair: PairEnded<D>, failures: D, registry: D) -> Tended<D>
     ensures end { result.end ≡ pair.end }
     ensures disks { result.disks ≡ disks pair.journal pair.spare failures registry }
@@ -62,7 +62,7 @@ fn beside<D>(pair: PairEnded<D>, failures: D, registry: D) -> Tended<D>
     }
 }
 
-/// Does what the command asks for over the disks.
+/// Runs the command over the disks.
 fn tend_disks<D: Disk>(alloc: Global, upkeep: Upkeep, disks: Disks<D>) -> Tended<D>
     ensures end { IfOk result.end (IsUpkeepEnd (meaning D.Disk) upkeep disks result.disks) }
     ensures left { IsLeft (meaning D.Disk) disks result.disks upkeep }
@@ -93,7 +93,7 @@ fn tend_disks<D: Disk>(alloc: Global, upkeep: Upkeep, disks: Disks<D>) -> Tended
     }
 }
 
-/// The exit status that tells how a command over the journals ended.
+/// Returns the exit status for the end of a command over the journals.
 fn status_of(end: &UpkeepEnd) -> u8
     ensures value { result ≡ upkeep_status end.now }
     ensures good_words { result ≢ 2 }
@@ -102,7 +102,7 @@ fn status_of(end: &UpkeepEnd) -> u8
     end.status()
 }
 
-/// Tells how a command over the journals ended, and answers the exit status.
+/// Writes how a command over the journals ended, and returns the exit status.
 fn tell_upkeep<K: Sink>(alloc: Global, out: &mut K, end: Result<UpkeepEnd, OutOfMemory>) -> u8
     ensures told { result ≢ 70 → (e : UpkeepEnd) × (end ≡ Ok e) × IsToldWith (K.faults out.old) (K.faults out.new)
         (K.written out.old) (K.written out.new) (upkeep_text e) (upkeep_status e) OUTPUT_FAULT result }
@@ -121,7 +121,7 @@ fn tell_upkeep<K: Sink>(alloc: Global, out: &mut K, end: Result<UpkeepEnd, OutOf
     }
 }
 
-/// Does what the command asks for over the world's disks, tells how it ended, and hands the world back with the exit
+/// Runs a command over the journals on the world's disks, writes how it ended, and hands the world back with the exit
 /// status.
 fn keep_up<S, K: Sink, D: Disk, C, F, L>(
     alloc: Global,
@@ -186,7 +186,7 @@ fn keep_up<S, K: Sink, D: Disk, C, F, L>(
     }
 }
 
-/// Does what a command over the four files asks for, tells how it ended, and hands the world back with the exit status.
+/// Runs a command over the four files, writes how it ended, and hands the world back with the exit status.
 pub fn tend<S, K: Sink, D: Disk, C, F, L>(
     alloc: Global,
     command: FilesCommand,

@@ -1,4 +1,4 @@
-// The whole program: does what the words of the command line ask for, and answers the exit status.
+// The whole program: runs the command that the words of the command line spell, and returns the exit status.
 ghost use Rattle.std.specs.Prelude.{◌≡◌, ◌≢◌, ℕ, [], length, map};
 ghost use Rattle.std.specs.String.{string_bytes};
 ghost use Rattle.esm_model.specs.declared.limits.TheConstants.{MAX_LANES};
@@ -26,18 +26,19 @@ use std::alloc::Global;
 use std::sync::Wait;
 use std::thread::Threads;
 
-/// Does what the words of the command line ask for, and hands the world back with the exit status: 0 where `init` made the
-/// files, `show` told what the journal says or `failures` its lines, `compact` or `migrate` wrote the journal anew or found
-/// it of version 2, `run`, `ddb` or `redrive` read the input to its end and every record has its fate, or every message is
-/// deleted, `replay` read it to its end and each named record was replayed or its last call left it,
-/// `serve` served as many connections as it was asked to, or every record of the stream of `gen` has its fate; 1 where the
-/// calls allowed were spent before, also while more of the input was awaited; 2 where the words are no command that is
-/// built; 3 at a bad line; 4 where the input failed; 5 where the output failed; 6 where a disk failed; 7 where the failure
-/// file failed in a run; 8 where `init` found a file that is not empty, or another command one that is no journal, is
-/// damaged or has a bad payload, or a record or message differs from the kept one; 9 where the mapping is unknown or
-/// disabled, or a parameter is refused; 10 past a limit; 11 where the door failed; 70 for want of memory, after which
-/// nothing is told. 4, 5, 6, 7 and 11 come only where the device's count of faults rose. With `--trace` the history of `run`, `ddb`,
-/// `redrive` or `replay` is told before its report, where it began.
+/// Runs the command that the words of the command line spell, and hands the world back with the exit status:
+/// 0 if `init` made the files; `show` printed what the journal says, or `failures` its lines; `compact` or `migrate` wrote
+/// the journal anew, or found it of version 2; `run`, `ddb` or `redrive` read the input to its end, and every record has its
+/// fate or every message is deleted; `replay` read it to its end, and each named record was replayed or its last call left
+/// it; `serve` served as many connections as it was asked to; or every record of the stream of `gen` has its fate.
+/// 1 if the calls allowed were spent before that, also while more of the input was awaited. 2 if the words spell no command
+/// that is built. 3 at a bad line. 4 if the input failed. 5 if the output failed, except after bad words. 6 if a disk failed.
+/// 7 if the failure file failed in a run. 8 if `init` found a file that is not empty, if another command found one that is no
+/// journal, is damaged or has a bad payload, or if a record or message differs from the one that the journal kept. 9 if the
+/// mapping is unknown or disabled, or a parameter is refused. 10 if the input exceeds a limit. 11 if the door failed. 70 if
+/// memory ran out; then nothing is printed.
+/// 4, 5, 6, 7 and 11 are returned only if the device's count of faults rose. With `--trace` the history of `run`, `ddb`,
+/// `redrive` or `replay` is printed before its report, if it began.
 pub fn esm<
     R: Threads + Wait + Sync,
     S: Source + Send,
@@ -54,7 +55,7 @@ pub fn esm<
 ) -> Ended<S, K, D, C, F, L>
     requires callers { length world.callers.items ≡ MAX_LANES }
     requires trace { world.trace.items ≡ [] }
-    // The command that the words spell ended so, and no other status tells of it where no device failed.
+    // The command that the words spell ended with this status, and if no device failed, with no other one.
     ensures outcome { result.status ≢ 70 → Outcome (devices C.Clock F.Caller D.Disk S.Source K.Sink L.Door L.Conn.Link)
         (map string_bytes words.now) world result.world result.status }
     ensures exact { result.status ≢ 70 → NoneFailed (devices C.Clock F.Caller D.Disk S.Source K.Sink L.Door L.Conn.Link)
@@ -65,7 +66,7 @@ pub fn esm<
         (map string_bytes words.now) world result.world result.status }
     ensures bad_words { result.status ≡ 2 → (c : Command) → ¬ SpellsBuilt (map string_bytes words.now) c }
     ensures spelled { result.status ≢ 2 → result.status ≢ 70 → (c : Command) × SpellsBuilt (map string_bytes words.now) c }
-    // Want of memory.
+    // Out of memory.
     ensures want_of_memory { result.status ≡ 70 → IsStopped (devices C.Clock F.Caller D.Disk S.Source K.Sink L.Door L.Conn.Link)
         (map string_bytes words.now) world result.world }
     // What stays, whatever the status.

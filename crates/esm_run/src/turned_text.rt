@@ -1,11 +1,12 @@
-// The lines that an input of a DynamoDB stream became, as the source of a run.
+// The turned lines of a DynamoDB stream's input, as the source of a run.
 ghost use Rattle.std.specs.Prelude.{◌≡◌};
 
 use esm_ddb::TextPieces;
 use esm_io::{Failed, Source};
 use std::marker::Model;
 
-/// Bytes in memory, read from the front and freed as they are read. Contracts see those that are left. It never fails.
+/// Bytes in memory, which are read from the front and freed once they are read. Contracts see those that are left. It never
+/// fails.
 #[derive(Drop)]
 pub struct TurnedText {
     text: TextPieces,
@@ -20,7 +21,7 @@ impl Model for TurnedText {
 }
 
 impl TurnedText {
-    /// All of the bytes are left.
+    /// Makes a source of all of these bytes.
     pub fn new(text: TextPieces) -> TurnedText
         ensures { result ≡ text }
     {

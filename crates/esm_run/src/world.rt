@@ -1,8 +1,8 @@
-// All that a command touches, such as disks, clock and callers, and the same as a command leaves it.
+// All that a command touches, such as disks, clock and callers, before the command and after it.
 use esm_model::Entry;
 
-/// All that a command touches: where input comes from and output goes to, the disks, the clock, one caller for each
-/// batcher, where connections come in, and the history that a run leaves, oldest entry first.
+/// All that a command touches: the input and the output, the disks, the clock, one caller for each batcher, the door through
+/// which connections arrive, and the history that a run leaves, oldest entry first.
 #[derive(Drop)]
 pub struct World<S, K, D, C, F, L> {
     pub input: S,

@@ -1,5 +1,5 @@
 -- Why a message of a queue is deleted. Source: the Lambda Developer Guide, "Using Lambda with Amazon SQS" (a message is
--- deleted once its batch, or in a partial batch response the message, succeeded, and where it does not pass the filter).
+-- deleted once its batch, or in a partial batch response the message, succeeded, and if it does not pass the filter).
 use Rattle.std.specs.Prelude.{◌≡◌, ◌⊎◌, ◌<◌, ◌∷◌, ◌++◌, ℕ, true, false, List, Some}
 use Rattle.esm_model.specs.declared.entry.Entry.{Entry}
 use Rattle.esm_model.specs.declared.entry.Entry.TheVariants.{Ended}
@@ -28,14 +28,14 @@ pub record FailsFilter (s : QueueSetting) (i : ℕ) : Type 0 where
   pub at : message_at s i ≡ Some message
   pub fails : passes_message s.config.filters message ≡ false
 
--- its deletion is earned: it was found deleted, or a reply counts it as succeeded, or it does not pass the filter
+-- its deletion is earned: it was found deleted, a reply counts it as succeeded, or it does not pass the filter
 abbrev pub IsEarned : QueueSetting → List Entry → ℕ → Type 0
 IsEarned s h i = (is_found s i ≡ true) ⊎ (HasSucceeded s h i ⊎ FailsFilter s i)
 
--- a message that came is deleted only where that is earned
+-- a message that arrived is deleted only if its deletion is earned
 abbrev pub DeletedOnlyEarned : QueueSetting → List Entry → Type 0
 DeletedOnlyEarned s h = (i : ℕ) → i < queue_count h → is_deleted s h i ≡ true → IsEarned s h i
 
--- and wherever it is
+-- and it is deleted if its deletion is earned
 abbrev pub DeletedAllEarned : QueueSetting → List Entry → Type 0
 DeletedAllEarned s h = (i : ℕ) → i < queue_count h → IsEarned s h i → is_deleted s h i ≡ true

@@ -24,14 +24,14 @@ use Rattle.esm_runner.specs.Headline.{Telling, Devices, IsSettingOf, CallsMade, 
 use Rattle.esm_runner.specs.declared.run.MappingEnd.{MappingEnd}
 use Rattle.esm_runner.specs.declared.run.MappingEnd.TheVariants as end
 
--- all records came, none of which differs from what was kept of its place, and the end of the input was noted
+-- all records arrived, none differs from what the journal kept of its place, and the end of the input was noted
 pub record AllCame (s : Setting) (h : List Entry) (records : List Record) : Type 0 where
   pub lists : (n : ℕ) → records_of s n ≡ of_shard n records
   pub came : (n : ℕ) → came_count h n ≡ length (records_of s n)
   pub unchanged : first_change s [] records ≡ None
   pub shut : is_shut h ≡ true
 
--- the book's trouble, where the run ended by one
+-- the book's trouble, if that ended the run
 abbrev pub trouble_of : MappingEnd → Option Trouble
 trouble_of (end.Finished why) = None
 trouble_of end.CallsSpent = None
@@ -39,10 +39,11 @@ trouble_of end.DiskFault = Some trouble.Disk
 trouble_of end.DestFault = Some trouble.Dest
 trouble_of (end.Changed change) = Some (trouble.Changed change)
 
--- why: each record has its fate, no window is outstanding, and the reading ended for this; all calls allowed began, and a
--- record is open, or a window outstanding, or the input had not ended, where it does not tell its bytes; the faults of a disk
--- of the journal rose, or those of the failure file; or a record came with another sequence number than was kept of its place,
--- the first of the input that did
+-- The causes of each end. `Finished`: each record has its fate, no window is outstanding, and the reading ended for this
+-- reason. `CallsSpent`: all calls allowed began, and a record is open, or a window outstanding, or the input had not ended,
+-- if it does not show its bytes. `DiskFault`, `DestFault`: the faults of a disk of the journal rose, or those of the failure
+-- file. `Changed`: a record arrived with another sequence number than the journal kept of its place, the first such record
+-- of the input.
 abbrev pub IsCauseOf : {D F : Type 0} → Telling D F → FilesState D → Setting → List Entry → List Record → (reading : Option InputEnd) → (bytes_left : Option (List ℕ)) → Devices D F → MappingEnd → Type 0
 IsCauseOf t f s h records reading bytes_left new (end.Finished why) = AllCame s h records × (reading ≡ Some why) × AllFated s h × NoneOutstanding s h
 IsCauseOf t f s h records reading bytes_left new end.CallsSpent = AllCame s h records × (calls_begun h ≡ s.calls) × IsUnfinished s h reading bytes_left
@@ -50,7 +51,7 @@ IsCauseOf t f s h records reading bytes_left new end.DiskFault = OneRose t.disk 
 IsCauseOf t f s h records reading bytes_left new end.DestFault = Rose (t.disk.faults f.dest.disk) (t.disk.faults new.failures)
 IsCauseOf t f s h records reading bytes_left new (end.Changed change) = (kept_otherwise s change.shard change.place change.given ≡ Some change.kept) × IsOfRecord records change × IsFirstChange s records change
 
--- the input of a run of the configuration from the starting position on, as it was read
+-- the input of a run of the configuration, from the starting position on, as it was read
 pub record IsInputOf {S : Type 0} (faults : S → ℕ) (left : S → Option (List ℕ)) (config : Config) (start : Start) (old new : S) (i : InputState S) : Type 0 where
   pub kind : i.kind ≡ kinds.Stream
   pub factor : i.factor ≡ config.factor
@@ -60,8 +61,8 @@ pub record IsInputOf {S : Type 0} (faults : S → ℕ) (left : S → Option (Lis
   pub good : i.failed ≡ false
   pub read : IsInput faults left i
 
--- the run of the configuration over these files and this input, the reading of which ended so or came to no end, left this
--- history, and it ended so
+-- The run of the configuration over these files and this input left this history and ended so; `reading` is how the reading
+-- of the input ended, and none if it did not end.
 pub record HasEnded {S D F : Type 0} (t : Telling D F) (faults : S → ℕ) (left : S → Option (List ℕ)) (config : Config) (start : Start) (calls : ℕ) (f : FilesState D) (old_input new_input : S) (reading : Option InputEnd) (old_callers : List F) (h : List Entry) (new : Devices D F) (e : MappingEnd) : Type 0 where
   pub input : InputState S
   pub is_input : IsInputOf faults left config start old_input new_input input
@@ -70,19 +71,19 @@ pub record HasEnded {S D F : Type 0} (t : Telling D F) (faults : S → ℕ) (lef
   pub is_setting : IsSettingOf config calls f.said (records_in_items (handed input)) setting
   pub hand : List Entry
   pub headline : Headline t f setting h (trouble_of e) hand new
-  -- caller k's log, where told, grew by the calls of batcher k, and no call is without its end
+  -- caller k's log, if it is visible, grew by the calls of batcher k, and every call has ended
   pub calls_made : CallsMade t setting h old_callers new.callers
   pub rests : NoneRuns h
   pub cause : IsCauseOf t f setting h (records_in_items (handed input)) reading (left new_input) new e
 
--- the faults of a disk of the journal rose, or those of the failure file once it was opened, where the trouble says so
+-- the faults of a disk of the journal rose, or those of the failure file once it was opened, if this was the trouble
 abbrev pub IsFaultOf : {D F : Type 0} → Telling D F → FilesState D → Devices D F → Option Trouble → Type 0
 IsFaultOf t f new (Some trouble.Disk) = OneRose t.disk f.journal f.spare new.journal new.spare
 IsFaultOf t f new (Some trouble.Dest) = Rose (t.disk.faults f.dest.disk) (t.disk.faults new.failures)
 IsFaultOf t f new _ = Unit {0}
 
--- Want of memory stopped it: these bytes were read, the records of their lines came, or the first of them, and more bytes may
--- have been read after them. A device may have failed beside it.
+-- Memory ran out: these bytes were read, the records of their lines or a prefix of them arrived, and more bytes may have
+-- been read after them. A device may have failed as well.
 pub record HasStoppedRun {S D F : Type 0} (t : Telling D F) (left : S → Option (List ℕ)) (config : Config) (start : Start) (calls : ℕ) (f : FilesState D) (old_input new_input : S) (old_callers : List F) (h : List Entry) (new : Devices D F) : Type 0 where
   pub bytes : List ℕ
   pub more : List ℕ

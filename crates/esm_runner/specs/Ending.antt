@@ -1,4 +1,4 @@
--- How the end of a run is told, from how its batchers came to theirs. Only this crate's proofs cite this.
+-- The end of a run, by how its batchers ended. Only this crate's proofs cite this.
 use Rattle.std.specs.Prelude.{◌≡◌, Result, Ok, Err, Option, Some, IsSome}
 use Rattle.esm_model.specs.declared.book.Trouble.{Trouble}
 use Rattle.esm_model.specs.declared.book.Trouble.TheVariants as trouble
@@ -9,13 +9,13 @@ use Rattle.esm_pool.specs.declared.running.RunEnd.TheVariants as ran
 use Rattle.esm_runner.specs.declared.run.MappingEnd.{MappingEnd}
 use Rattle.esm_runner.specs.declared.run.MappingEnd.TheVariants as end
 
--- the batchers came to an end for which there is a reason
+-- there is a reason for the end of the batchers
 abbrev pub HasReason : Option Trouble → Option InputEnd → RunEnd → Type 0
 HasReason why reading ran.Finished = IsSome reading
 HasReason why reading ran.Spent = Unit {0}
 HasReason why reading ran.Down = IsSome why
 
--- the end of a run by which the batchers came to this, with this trouble of the book, and the reading to that
+-- the end of a run whose batchers ended so, with this trouble of the book and this end of the reading
 abbrev pub IsEndOf : RunEnd → Option Trouble → Option InputEnd → MappingEnd → Type 0
 IsEndOf r why reading (end.Finished last) = (r ≡ ran.Finished) × (reading ≡ Some last)
 IsEndOf r why reading end.CallsSpent = r ≡ ran.Spent

@@ -1,11 +1,11 @@
--- A destination over another, and what it delivers to it. This product's own.
+-- A destination over another one, and what it delivers to it. This product's own.
 use Rattle.std.specs.Prelude.{◌≡◌, ◌↔◌, ℕ, List}
 use Rattle.esm_io.specs.Faults.{Rose}
 use Rattle.esm_io.specs.Meanings.{DestMeaning}
 
--- What was sent by the one above is what was sent by the one below; of a line that is delivered above, this line is delivered
--- below. Both have failed, and both are honest, together, and the faults above rise only where those below do. Their clocks are
--- one, a crash leaves the same of both, and it is read as the same lines.
+-- The lines sent by the one above are those sent by the one below; for a line that is delivered above, `line` of it is
+-- delivered below. Both have failed, or neither; both are honest, or neither; and the faults above rise only if those below
+-- do. They share one clock, a crash leaves the same of both, and what it leaves is read as the same lines.
 pub record DeliversTo {B T : Type 0} (below : DestMeaning B) (above : DestMeaning T) (file : T → B) (line : List ℕ → List ℕ) : Type 0 where
   pub lines : (d : T) → above.lines d ≡ below.lines (file d)
   pub sends : (l : List ℕ) → above.sends l ≡ below.sends (line l)

@@ -16,7 +16,7 @@ use Rattle.esm_folder.specs.declared.ending.JournalFile.TheVariants as file
 use Rattle.esm_runner.specs.declared.files.FilesError.{FilesError}
 use Rattle.esm_runner.specs.declared.files.FilesError.TheVariants as error
 
--- the disks as they were handed in; the journal with its spare, what its payloads say, and the failure file, as they are
+-- the disks as they were handed in; the journal with its spare, what its payloads say, and the failure file, as they are now
 pub record FilesState (D : Type 0) : Type 0 where
   pub journal : D
   pub spare : D
@@ -25,16 +25,16 @@ pub record FilesState (D : Type 0) : Type 0 where
   pub said : SaidLists
   pub dest : JournalState D
 
--- what the failure file opens to
+-- what opening the failure file finds
 abbrev pub found_lines : {D : Type 0} → DiskMeaning D → (failures : D) → Opening
 found_lines m failures = opened (header_of 1) (m.content failures)
 
--- these lines stand in it
+-- it has these lines
 abbrev pub AreFoundLines : {D : Type 0} → DiskMeaning D → (failures : D) → List (List ℕ) → Type 0
 AreFoundLines m failures lines = m.honest failures ≡ true → (epoch : ℕ) × (found_lines m failures ≡ Holding epoch lines)
 
--- The pair opened to its payloads, of which none is bad and which say this; the failure file opened to its lines; no call of a
--- disk failed, and nothing was written.
+-- The pair opened to its payloads, none of which is bad and which say this; the failure file opened to its lines; no call of
+-- a disk failed, and nothing was written.
 pub record IsOpenedFiles {D : Type 0} (m : DiskMeaning D) (f : FilesState D) : Type 0 where
   pub opens : AreHonest m f.journal f.spare → found m f.journal f.spare ≡ Holding f.pair.epoch f.pair.payloads
   pub up : f.pair.down ≡ false
@@ -55,11 +55,11 @@ AreOpen m f = IsOpenedFiles m f
 abbrev pub AreUnwritten : {D : Type 0} → DiskMeaning D → (journal spare failures journal' spare' failures' : D) → Type 0
 AreUnwritten m journal spare failures journal' spare' failures' = AreOnlyRead m journal spare journal' spare' × IsOnlyRead m failures failures'
 
--- they are handed back
+-- the disks are handed back, with nothing written to them
 abbrev pub AreClosed : {D : Type 0} → DiskMeaning D → FilesState D → (journal spare failures : D) → Type 0
 AreClosed m f journal spare failures = AreUnwritten m f.journal f.spare f.failures journal spare failures
 
--- Why they were refused. The failure file is opened only once the pair was, and none of its payloads is bad.
+-- Why they were refused. The failure file is opened only after the pair, and only if none of the pair's payloads is bad.
 abbrev pub WhyRefused : {D : Type 0} → DiskMeaning D → (journal spare failures journal' spare' failures' : D) → FilesError → Type 0
 WhyRefused m journal spare failures journal' spare' failures' (error.NotAJournal file.Journal) = AreHonest m journal spare → found m journal spare ≡ Foreign
 WhyRefused m journal spare failures journal' spare' failures' (error.NotAJournal file.Failures) = m.honest failures ≡ true → found_lines m failures ≡ Foreign
@@ -76,7 +76,7 @@ pub record AreGoodPayloads {D : Type 0} (m : DiskMeaning D) (journal spare : D) 
   pub are_found : AreFound (AreHonest m journal spare) (found m journal spare) payloads
   pub good : are_good (reverse payloads) ≡ true
 
--- the refusal is of the failure file, so all was well with the pair
+-- if the failure file was refused, the pair was good
 abbrev pub StandsBefore : {D : Type 0} → DiskMeaning D → (journal spare : D) → FilesError → Type 0
 StandsBefore m journal spare (error.NotAJournal file.Failures) = AreGoodPayloads m journal spare
 StandsBefore m journal spare (error.Damaged file.Failures place) = AreGoodPayloads m journal spare

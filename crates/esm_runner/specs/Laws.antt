@@ -1,4 +1,4 @@
--- The laws of histories by which the headline holds. Only this crate's proofs cite this.
+-- The laws of histories from which the headline follows. Only this crate's proofs cite this.
 use Rattle.std.specs.Prelude.{◌≡◌, ℕ, Bool, List, ◌++◌, length, reverse, take_while, Option, is_some, option_map}
 use Rattle.esm_model.specs.declared.book.Trouble.{Trouble}
 use Rattle.esm_model.specs.declared.lane.LaneId.{LaneId}
@@ -21,11 +21,11 @@ use Rattle.esm_stream_book.specs.Moments.{AreTimed, IsGivenBehind, IsTimed, IsTi
 use Rattle.esm_record_bounds.specs.Bounds.{AreWithinBounds, AreCountedInFourBytes}
 use Rattle.esm_input.specs.Within.{HandedWithin}
 
--- the payloads of a legal history stay when the lists of records go on
+-- the payloads of a legal history stay the same if the lists of records are extended
 abbrev pub PayloadsStay : Type 0
 PayloadsStay = (s : Setting) (after : List Stream) (h : List Entry) → Extends s.streams after → Legal s h → history_payloads (over s after) h ≡ history_payloads s h
 
--- the laws of histories, of what their payloads say, of the moments of entries that are not added, and of inputs
+-- the laws of histories, of what their payloads say, of the moments of entries that were not added, and of inputs
 pub record AreLaws : Type 0 where
   pub order : (s : Setting) (h : List Entry) → Legal s h → OrderPerKey s h
   pub one : (s : Setting) (h : List Entry) → Legal s h → OneFate s h

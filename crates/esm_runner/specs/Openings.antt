@@ -1,4 +1,4 @@
--- What opening one of the files of a run leaves, and why one is refused. Only this crate's proofs cite this.
+-- What opening a file of a run leaves, and why one is refused. Only this crate's proofs cite this.
 use Rattle.std.specs.Prelude.{◌≡◌, true, false, reverse}
 use Rattle.esm_io.specs.Meanings.{DiskMeaning}
 use Rattle.esm_journal.specs.File.{Holding}
@@ -14,14 +14,14 @@ use Rattle.esm_runner.specs.declared.files.FilesError.{FilesError}
 use Rattle.esm_runner.specs.declared.files.FilesError.TheVariants as error
 use Rattle.esm_runner.specs.Files.{WhyRefused, StandsBefore}
 
--- the refusal where the file was not opened
+-- the refusal if the file was not opened
 abbrev pub refusal_of : JournalFile → OpenError → FilesError
 refusal_of name (why.NotAJournal first) = error.NotAJournal name
 refusal_of name (why.Damaged place) = error.Damaged name place
 refusal_of name why.DiskFault = error.DiskFault
 refusal_of name why.OutOfMemory = error.OutOfMemory
 
--- the pair over these disks opened to its payloads, of which none is bad and which say this; nothing was written
+-- the pair over these disks opened to its payloads, none of which is bad and which say this; nothing was written
 pub record IsPairOpened {D : Type 0} (m : DiskMeaning D) (journal spare : D) (pair : PairState D) (said : SaidLists) : Type 0 where
   pub opens : AreHonest m journal spare → found m journal spare ≡ Holding pair.epoch pair.payloads
   pub up : pair.down ≡ false
@@ -31,7 +31,7 @@ pub record IsPairOpened {D : Type 0} (m : DiskMeaning D) (journal spare : D) (pa
   pub order : IsInOrder said
   pub read : AreOnlyRead m journal spare (first_disk pair) (second_disk pair)
 
--- the pair was refused for this, whatever the failure file is, and nothing was written
+-- the pair was refused for this reason, whatever the failure file has, and nothing was written
 pub record IsPairRefused {D : Type 0} (m : DiskMeaning D) (journal spare journal' spare' : D) (why : FilesError) : Type 0 where
   pub cause : (failures : D) → WhyRefused m journal spare failures journal' spare' failures why
   pub before : StandsBefore m journal spare why

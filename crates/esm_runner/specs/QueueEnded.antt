@@ -30,14 +30,14 @@ use Rattle.esm_runner.specs.QueueHeadline.{IsSettingOf, CallsMade, CallsMadeOrOn
 use Rattle.esm_runner.specs.declared.run.MappingEnd.{MappingEnd}
 use Rattle.esm_runner.specs.declared.run.MappingEnd.TheVariants as end
 
--- all messages came, of those found deleted each with the id that was kept, and the end of the input was noted
+-- all messages arrived, each that was found deleted with the id that was kept, and the end of the input was noted
 pub record AllCame (s : QueueSetting) (h : List Entry) (messages : List Message) : Type 0 where
   pub list : s.messages ≡ messages
   pub came : queue_count h ≡ length messages
   pub unchanged : NoneDiffersBefore s.deletions messages (length messages)
   pub shut : is_shut h ≡ true
 
--- the message at the place was found deleted with the id that was kept, and is given with another id, as none before it is
+-- the message at the place was found deleted and has another id now than the one that was kept, and no message before it has
 pub record IsChanged (s : QueueSetting) (messages : List Message) (change : Change) : Type 0 where
   pub queue : change.shard ≡ 0
   pub found : FoundDeletion
@@ -49,10 +49,10 @@ pub record IsChanged (s : QueueSetting) (messages : List Message) (change : Chan
   pub differs : change.given ≡ change.kept → ⊥
   pub first : NoneDiffersBefore s.deletions messages change.place
 
--- why: each message is deleted, and the reading ended for this; all calls allowed began, and a message is not deleted, or the
--- input had not ended, where it does not tell its bytes; the faults of a disk of the journal rose; or a message was found
--- deleted and came with another id, the first of the input that did. A queue delivers no lines, so a run of one never ends by
--- a fault of the failure file.
+-- The causes of each end. `Finished`: each message is deleted, and the reading ended for this reason. `CallsSpent`: all
+-- calls allowed began, and a message is not deleted, or the input had not ended, if it does not show its bytes. `DiskFault`:
+-- the faults of a disk of the journal rose. `Changed`: a message that was found deleted arrived with another id, the first
+-- such message of the input. A queue delivers no lines, so a run of one never ends by a fault of the failure file.
 abbrev pub IsCauseOf : {D F : Type 0} → Telling D F → FilesState D → QueueSetting → List Entry → List Message → (reading : Option InputEnd) → (bytes_left : Option (List ℕ)) → Devices D F → MappingEnd → Type 0
 IsCauseOf t f s h messages reading bytes_left new (end.Finished why) = AllCame s h messages × (reading ≡ Some why) × AllDeleted s h
 IsCauseOf t f s h messages reading bytes_left new end.CallsSpent = AllCame s h messages × (calls_begun h ≡ s.calls) × IsUnfinished s h reading bytes_left
@@ -60,7 +60,7 @@ IsCauseOf t f s h messages reading bytes_left new end.DiskFault = OneRose t.disk
 IsCauseOf t f s h messages reading bytes_left new end.DestFault = ⊥
 IsCauseOf t f s h messages reading bytes_left new (end.Changed change) = IsChanged s messages change
 
--- the lines of a queue of the configuration
+-- the kind of lines of a queue of the configuration
 abbrev pub line_kind : Config → LineKind
 line_kind config = kinds.Queue (is_fifo config.kind)
 
@@ -74,14 +74,14 @@ pub record IsInputOf {S : Type 0} (faults : S → ℕ) (left : S → Option (Lis
   pub good : i.failed ≡ false
   pub read : IsInput faults left i
 
--- only as many batchers as the configuration allows called: a caller past their number is as it was, and its batcher made no
--- call
+-- no more batchers made calls than the configuration allows: a caller past their number is as it was, and its batcher made
+-- no call
 pub record OthersRest {D F : Type 0} (t : Telling D F) (config : Config) (s : QueueSetting) (h : List Entry) (old new : List F) : Type 0 where
   pub untouched : (k : ℕ) (d : F) → batchers_in config ≤ k → slice_index_or new k d ≡ slice_index_or old k d
   pub no_calls : (k : ℕ) → batchers_in config ≤ k → queue_calls s t.callers.sends h k ≡ []
 
--- the run of the configuration over these files and this input, the reading of which ended so or came to no end, left this
--- history, and it ended so
+-- The run of the configuration over these files and this input left this history and ended so; `reading` is how the reading
+-- of the input ended, and none if it did not end.
 pub record HasEnded {S D F : Type 0} (t : Telling D F) (faults : S → ℕ) (left : S → Option (List ℕ)) (config : Config) (calls visibility : ℕ) (f : FilesState D) (old_input new_input : S) (reading : Option InputEnd) (old_callers : List F) (h : List Entry) (new : Devices D F) (e : MappingEnd) : Type 0 where
   pub input : InputState S
   pub is_input : IsInputOf faults left config old_input new_input input
@@ -90,22 +90,22 @@ pub record HasEnded {S D F : Type 0} (t : Telling D F) (faults : S → ℕ) (lef
   pub is_setting : IsSettingOf config calls visibility f.said (messages_in_items (handed input)) setting
   pub hand : List Entry
   pub headline : Headline t f setting h (trouble_of e) hand new
-  -- where no trouble ended it, each message whose deletion is earned is deleted
+  -- if no trouble ended it, each message whose deletion is earned is deleted
   pub all_earned : trouble_of e ≡ None → DeletedAllEarned setting h
-  -- caller k's log, where told, grew by the calls of batcher k, and no call is without its end
+  -- caller k's log, if it is visible, grew by the calls of batcher k, and every call has ended
   pub calls_made : CallsMade t setting h old_callers new.callers
   pub rests : NoneRuns h
   pub others : OthersRest t config setting h old_callers new.callers
   pub cause : IsCauseOf t f setting h (messages_in_items (handed input)) reading (left new_input) new e
 
--- the faults of a disk of the journal rose, where the trouble says so; a queue delivers no lines
+-- the faults of a disk of the journal rose, if this was the trouble; a queue delivers no lines
 abbrev pub IsFaultOf : {D F : Type 0} → Telling D F → FilesState D → Devices D F → Option Trouble → Type 0
 IsFaultOf t f new (Some trouble.Disk) = OneRose t.disk f.journal f.spare new.journal new.spare
 IsFaultOf t f new (Some trouble.Dest) = ⊥
 IsFaultOf t f new _ = Unit {0}
 
--- Want of memory stopped it: these bytes were read, the messages of their lines came, or the first of them, and more bytes may
--- have been read after them. A disk may have failed beside it.
+-- Memory ran out: these bytes were read, the messages of their lines or a prefix of them arrived, and more bytes may have
+-- been read after them. A disk may have failed as well.
 pub record HasStoppedRun {S D F : Type 0} (t : Telling D F) (left : S → Option (List ℕ)) (config : Config) (calls visibility : ℕ) (f : FilesState D) (old_input new_input : S) (old_callers : List F) (h : List Entry) (new : Devices D F) : Type 0 where
   pub bytes : List ℕ
   pub more : List ℕ

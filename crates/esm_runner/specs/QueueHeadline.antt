@@ -36,26 +36,26 @@ use Rattle.esm_runner.specs.Headline.{Telling, Devices, PairStopped, IsInHand}
 use Rattle.esm_runner.specs.Earned.{DeletedOnlyEarned}
 
 -- the setting of a run: opened with the configuration, the calls allowed, the visibility timeout in milliseconds and the
--- deletions that the journal told of; its messages are those of the input, in order, as far as they came
+-- deletions that the journal has; its messages are those of the input, in order, as far as they arrived
 pub record IsSettingOf (config : Config) (calls visibility : ℕ) (said : SaidLists) (messages : List Message) (s : QueueSetting) : Type 0 where
   pub opened : s ≡ over_messages (new_setting config calls visibility said.deletions) s.messages
   pub came : (rest : List Message) × (messages ≡ s.messages ++ rest)
 
--- legal over every list of messages that goes on from those that came
+-- legal over every list of messages that extends those that arrived
 abbrev pub LegalOver : QueueSetting → List Entry → Type 0
 LegalOver s h = (messages : List Message) → ExtendsMessages s.messages messages → LegalQueue (over_messages s messages) h
 
--- where there is no trouble nothing is called for, over every list of messages that goes on from those that came: each message
--- that waits passes the filter, and no lane is owed a deletion
+-- without trouble nothing is owed, over every list of messages that extends those that arrived: each message that waits
+-- passes the filter, and no lane is owed a deletion
 abbrev pub SettledUnless : Option Trouble → QueueSetting → List Entry → Type 0
 SettledUnless trouble s h = trouble ≡ None → (messages : List Message) → ExtendsMessages s.messages messages → SettledQueue (over_messages s messages) h
 
--- the entry in hand may follow the history, or a front of it after which calls and the input ended alone, over every list of
--- messages that goes on from those that came
+-- the entry in hand may follow the history, or a prefix of it that only ends of calls and of the input follow, over every
+-- list of messages that extends those that arrived
 abbrev pub HandFollows : QueueSetting → List Entry → (hand : List Entry) → Type 0
 HandFollows s h hand = (e : Entry) → hand ≡ e ∷ [] → FollowsFront (λ before x. LegalOver s (x ∷ before)) h e
 
--- its moment is one that the clock gave, or that of the last entry of that front where that is later, and at most `MAX_MOMENT`
+-- its moment is one that the clock gave, or that of the last entry of that prefix if that is later, and at most `MAX_MOMENT`
 abbrev pub HandIsGiven : (ℕ → Bool) → (s : QueueSetting) (h hand : List Entry) → HandFollows s h hand → Type 0
 HandIsGiven gave s h hand follows = (e : Entry) (some : hand ≡ e ∷ []) → IsGiven gave (follows e some).before (moment_of e)
 
@@ -63,11 +63,11 @@ HandIsGiven gave s h hand follows = (e : Entry) (some : hand ≡ e ∷ []) → I
 abbrev pub HandHasPayload : QueueSetting → (hand : List Entry) → Type 0
 HandHasPayload s hand = (e : Entry) → hand ≡ e ∷ [] → IsSome (queue_payload s.messages e)
 
--- caller k's log, where told, grew by the calls of batcher k
+-- caller k's log, if it is visible, grew by the calls of batcher k
 abbrev pub CallsMade : {D F : Type 0} → Telling D F → QueueSetting → List Entry → (old new : List F) → Type 0
 CallsMade {D} {F} t s h old new = (k : ℕ) (d : F) → k < length old → Grows (t.callers.log (slice_index_or old k d)) (t.callers.log (slice_index_or new k d)) (queue_calls s t.callers.sends h k)
 
--- or perhaps by one further call of a lane that still runs
+-- or perhaps by one further call, of a lane that still runs
 abbrev pub CallsMadeOrOneMore : {D F : Type 0} → Telling D F → QueueSetting → List Entry → (old new : List F) → Type 0
 CallsMadeOrOneMore {D} {F} t s h old new = (k : ℕ) (d : F) → k < length old → HasLogged t.callers.sends s h k (t.callers.log (slice_index_or old k d)) (t.callers.log (slice_index_or new k d))
 
@@ -75,20 +75,21 @@ CallsMadeOrOneMore {D} {F} t s h old new = (k : ℕ) (d : F) → k < length old 
 abbrev pub JournalKept : {D F : Type 0} → Telling D F → FilesState D → QueueSetting → List Entry → Devices D F → Type 0
 JournalKept t f s h new = AreHonest t.disk f.journal f.spare → PairHolds t.disk f.pair.epoch (f.pair.payloads ++ payloads_in s.messages (reverse h)) new.journal new.spare
 
--- where a disk of the journal failed: what a crash now leaves of it opens to these, or to these and the payload of the entry in
--- hand
+-- after a fault of the journal's disk: what a crash now leaves of it opens to these payloads, or to these and that of the
+-- entry in hand
 abbrev pub JournalStopped : {D F : Type 0} → Telling D F → FilesState D → QueueSetting → List Entry → (hand : List Entry) → Devices D F → Type 0
 JournalStopped t f s h hand new = PairStopped t.disk f (payloads_in s.messages (reverse h)) (payloads_in s.messages (reverse h ++ hand)) new.journal new.spare
 
 -- Every image of the pair since the run's start opens to the content found, followed by a prefix of the payloads of the
--- history in their order; where a disk failed, one further whole payload may follow all of them.
+-- history in their order; if a disk failed, one further whole payload may follow all of them.
 abbrev pub CrashKept : {D F : Type 0} → Telling D F → FilesState D → QueueSetting → List Entry → (hand : List Entry) → Devices D F → Type 0
 CrashKept t f s h hand new =
     AreHonest t.disk f.journal f.spare → AreSettled t.disk f.journal f.spare → (one other : List ℕ) →
     t.disk.since new.journal (t.disk.moment f.journal) one → t.disk.since new.spare (t.disk.moment f.spare) other →
     OpensToFirst f.pair.epoch f.pair.payloads (payloads_in s.messages (reverse h ++ hand)) one other
 
--- And so does each since the pair was opened, whatever a crash might have left of its disks before: opening synced them.
+-- So does each image since the pair was opened, whatever a crash before that might have left of its disks: opening synced
+-- them.
 abbrev pub CrashKeptSinceOpening : {D F : Type 0} → Telling D F → FilesState D → QueueSetting → List Entry → (hand : List Entry) → Devices D F → Type 0
 CrashKeptSinceOpening t f s h hand new =
     AreHonest t.disk f.journal f.spare → (one other : List ℕ) →
@@ -99,59 +100,59 @@ CrashKeptSinceOpening t f s h hand new =
 abbrev pub said_after : {D : Type 0} → FilesState D → QueueSetting → List Entry → List Said
 said_after f s h = history (reverse (f.pair.payloads ++ payloads_in s.messages (reverse h)))
 
--- By the journal's content each place has the fate of its deletion after the history, found or given, and none where it has
--- none; and a message that came is deleted exactly where the content says so.
+-- By the journal's content each place has the fate of its deletion after the history, found or given, and no other place has
+-- one; and a message that arrived is deleted if and only if the content says so.
 pub record DeletionsAreRecorded {D : Type 0} (f : FilesState D) (s : QueueSetting) (h : List Entry) : Type 0 where
   pub fates : (i : ℕ) → option_map (λ (k : KeptFate). k.fate) (deletion_said (said_after f s h) i) ≡ deletion_fate s h i
   pub deleted : (i : ℕ) → i < queue_count h → is_some (deletion_said (said_after f s h) i) ≡ is_deleted s h i
 
--- each reply is the one that stands with its event among the calls of its batcher, by which the log of that caller grew
+-- each reply is the one, next to the call's event, in the calls of its batcher, by which the log of that caller grew
 abbrev pub RepliesAreLogged : {D F : Type 0} → Telling D F → QueueSetting → List Entry → Type 0
 RepliesAreLogged t s h =
     (later before : List Entry) (lane : LaneId) (reply : Reply) (m : ℕ) → h ≡ later ++ Ended lane reply m ∷ before
     → (earlier rest : List Called)
     × (queue_calls s t.callers.sends h lane.lane ≡ earlier ++ record { name = s.config.function; event = t.callers.sends (last_queue_event s before lane); reply = reply } ∷ rest)
 
--- What holds of a history, newest entry first, and of the devices after it, whatever ended the run.
+-- What holds of a history (newest entry first) and of the devices after it, whatever ended the run.
 pub record Headline {D F : Type 0} (t : Telling D F) (f : FilesState D) (s : QueueSetting) (h : List Entry) (trouble : Option Trouble) (hand : List Entry) (new : Devices D F) : Type 0 where
-  -- each entry may follow those before it, over every list of messages that goes on from those that came
+  -- each entry may follow those before it, over every list of messages that extends those that arrived
   pub legal_trace : LegalOver s h
-  -- where no disk failed and no message was found changed, nothing is called for
+  -- if no disk failed and no message was found changed, nothing is owed
   pub settled : SettledUnless trouble s h
-  -- the messages of the setting are those that came in the history
+  -- the messages of the setting are those that arrived in the history
   pub messages_came : queue_count h ≡ length s.messages
-  -- each of them is valid, and four bytes count them
+  -- each of them is valid, and 32 bits count them
   pub valid : All (IsValidMessage s.config.kind) s.messages
   pub few : length s.messages < 2 ^ 32
-  -- each moment is one that the clock gave, at most the greatest, or that of the entry before it where that is later
+  -- each moment is one that the clock gave, at most `MAX_MOMENT`, or that of the entry before if that is later
   pub moments : AreGiven t.callers.gave h
-  -- the journal's content is the old one followed by the payloads of the trace
+  -- the journal's content is the old one followed by the payloads of the history
   pub journal_kept : (trouble ≡ Some Disk → ⊥) → JournalKept t f s h new
-  -- where a disk of it failed, one further whole payload may follow, that of the entry in hand
+  -- if a disk of it failed, one further whole payload may follow, that of the entry in hand
   pub journal_stopped : trouble ≡ Some Disk → JournalStopped t f s h hand new
-  -- an entry is in hand exactly where a disk of the journal failed, and then one; it has a payload, and may follow, and its
-  -- moment is one that the clock gave
+  -- exactly one entry is in hand if a disk of the journal failed, and none otherwise; it has a payload and may follow, and
+  -- its moment is one that the clock gave
   pub in_hand : IsInHand trouble hand
   pub hand_has_payload : HandHasPayload s hand
   pub hand_follows : HandFollows s h hand
   pub hand_given : HandIsGiven t.callers.gave s h hand hand_follows
-  -- what a crash leaves since the run's start: the old content followed by a prefix of the payloads of the trace
+  -- what a crash leaves since the run's start: the old content followed by a prefix of the payloads of the history
   pub crash : CrashKept t f s h hand new
-  -- and since its pair was opened, whatever a crash might have left of the disks before
+  -- and since its pair was opened, whatever a crash before that might have left of the disks
   pub crash_since_opening : CrashKeptSinceOpening t f s h hand new
-  -- the failure file is as it was opened, and was only read
+  -- the failure file is as it was opened, and opening only read it
   pub failures_same : new.failures ≡ f.dest.disk
   pub failures_read : IsOnlyRead t.disk f.failures new.failures
-  -- a message that came is deleted only where it was found deleted, a reply of the trace counts it as succeeded, or it does
-  -- not pass the filter
+  -- a message that arrived is deleted only if it was found deleted, a reply of the history counts it as succeeded, or it
+  -- does not pass the filter
   pub only_earned : DeletedOnlyEarned s h
-  -- and the reply that counts it stands in the log of its batcher's caller
+  -- and the reply that counts it is in the log of its batcher's caller
   pub replies_are_logged : RepliesAreLogged t s h
-  -- each deletion is recorded: it stands in the journal's content with its fate, and no other does
+  -- each deletion is recorded: the journal's content has exactly these, each with its fate
   pub deletions_are_recorded : DeletionsAreRecorded f s h
-  -- no message is deleted twice, and none that was found deleted
+  -- no message is deleted twice, and none is that was found deleted
   pub deleted_once : DeletedOnce s h
-  -- of a FIFO queue no batch overtakes an earlier message of one of its groups
+  -- in a FIFO queue no batch overtakes an earlier message of one of its groups
   pub order_per_group : OrderPerGroup s h
-  -- the messages that came are the deleted ones and those that wait together, each once
+  -- the messages that arrived are the deleted ones and those that wait, each counted once
   pub every_message_counted : EveryMessageCounted s h

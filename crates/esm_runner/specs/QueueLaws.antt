@@ -1,4 +1,4 @@
--- The laws by which the headline of a queue holds. Only this crate's proofs cite this.
+-- The laws from which the headline of a queue follows. Only this crate's proofs cite this.
 use Rattle.std.specs.Prelude.{◌≡◌, ℕ, Bool, List, Option, Some}
 use Rattle.esm_model.specs.declared.book.Trouble.{Trouble}
 use Rattle.esm_model.specs.declared.item.Message.{Message}

@@ -1,4 +1,4 @@
--- A run that is to begin, and what it leaves. Only this crate's proofs cite this.
+-- A run that is about to begin, and what it leaves. Only this crate's proofs cite this.
 use Rattle.std.specs.Prelude.{◌≡◌, ◌<◌, ◌^◌, ℕ, true, false, List, [], ◌∷◌, Some, None, length, reverse}
 use Rattle.std.specs.List.{All}
 use Rattle.esm_io.specs.Images.{Only}
@@ -29,8 +29,8 @@ use Rattle.esm_runner.specs.QueueEnded.{line_kind}
 abbrev pub new_input : {S : Type 0} → Config → S → InputState S
 new_input config source = record { kind = line_kind config; factor = config.factor; start = config.start; found = source; source = source; bytes = []; whole = false; end = None; failed = false }
 
--- the book and the input of a run with this configuration are new, over this journal and this source; so many batchers are
--- to be asked
+-- the book and the input of a run with this configuration are new, over this journal and this source, and this is the number
+-- of its batchers
 pub record IsBegun {S D : Type 0} (config : Config) (calls visibility : ℕ) (said : SaidLists) (pair : PairState D) (source : S) (b : BookState D) (i : InputState S) (name : List ℕ) (batchers : ℕ) : Type 0 where
   pub core : b.core ≡ new_view (new_setting config calls visibility said.deletions)
   pub pair_is : b.pair ≡ pair
@@ -60,19 +60,19 @@ pub record IsLeft {D : Type 0} (m : DiskMeaning D) (f : FilesState D) (b : BookS
   pub legal : LegalQueue b.core.setting b.core.past
   pub settled : b.trouble ≡ None → SettledQueue b.core.setting b.core.past
   pub came : queue_count b.core.past ≡ length b.core.setting.messages
-  -- the found deletions are those that the journal told of; the messages that came are valid, and their places have four bytes
+  -- the found deletions are those of the journal; the messages that arrived are valid, and 32 bits count them
   pub deletions : b.core.setting.deletions ≡ f.said.deletions
   pub valid : All (IsValidMessage b.core.setting.config.kind) b.core.setting.messages
   pub few : length b.core.setting.messages < 2 ^ 32
   pub journal : HasJournal m b
   pub since : LeavesSince m f b
   pub pair_kept : PairKeepsWhileUp m b.pair
-  -- what a crash leaves since the opening, and what it leaves now where a disk failed
+  -- what a crash leaves since the opening, and what it leaves now if a disk failed
   pub opened_since : LeavesFirst m b.found b.pair (payloads_in (all_messages b.core) (entries_left b))
   pub pair_stopped : PairKeepsWhileDown m b.pair
-  -- no messages are coming that the history or the entry in hand names
+  -- the messages that are still arriving change no payload of the history or of the entry in hand
   pub stays : payloads_in (all_messages b.core) (reverse b.core.past) ≡ payloads_in b.core.setting.messages (reverse b.core.past)
   pub hand : payloads_in (all_messages b.core) (in_hand b.trouble b.core.owed) ≡ payloads_in b.core.setting.messages (in_hand b.trouble b.core.owed)
-  -- and the entry in hand may follow; exactly one was being written where a disk failed
+  -- and the entry in hand may follow; exactly one was being written if a disk failed
   pub hand_follows : (e : Entry) → in_hand b.trouble b.core.owed ≡ e ∷ [] → MayFollowFront b.core.setting b.core.past e
   pub hand_is_one : b.trouble ≡ Some trouble.Disk → (e : Entry) × (payload : List ℕ) × (in_hand b.trouble b.core.owed ≡ e ∷ []) × (queue_payload b.core.setting.messages e ≡ Some payload)

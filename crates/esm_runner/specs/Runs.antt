@@ -1,4 +1,4 @@
--- A run that is to begin, and what it leaves. Only this crate's proofs cite this.
+-- A run that is about to begin, and what it leaves. Only this crate's proofs cite this.
 use Rattle.std.specs.Prelude.{◌≡◌, ◌≤◌, ℕ, true, false, List, [], ◌∷◌, Some, None}
 use Rattle.esm_io.specs.Images.{Only}
 use Rattle.esm_io.specs.Meanings.{DiskMeaning, DestMeaning}
@@ -29,7 +29,7 @@ use Rattle.esm_runner.specs.Headline.{CanBeSaid, HandFollows, SettledUnless}
 abbrev pub new_input : {S : Type 0} → Config → Start → S → InputState S
 new_input config start source = record { kind = kinds.Stream; factor = config.factor; start = start; found = source; source = source; bytes = []; whole = false; end = None; failed = false }
 
--- a book with its failure file in place of the destination over it
+-- a book with the failure file in place of the destination over it
 abbrev pub over_file : {D T : Type 0} → (T → JournalState D) → BookState D T → BookState D (JournalState D)
 over_file file b = record { core = b.core; pair = b.pair; dest = file b.dest; trouble = b.trouble; found = b.found; found_dest = file b.found_dest }
 
@@ -50,7 +50,7 @@ files_of journal spare failures said b = record { journal = journal; spare = spa
 
 -- what it leaves
 
--- a failure file as a destination, to which this is delivered of a line
+-- a failure file as a destination; `line` is what is delivered to it for a line
 abbrev pub file_dest : {D : Type 0} → DiskMeaning D → (List ℕ → List ℕ) → DestMeaning (JournalState D)
 file_dest m line = record {
   honest = λ d. m.honest d.disk;
@@ -70,7 +70,7 @@ LeavesSince m line f b =
     m.since (first_disk b.pair) (m.moment f.journal) one → m.since (second_disk b.pair) (m.moment f.spare) other →
     OpensToFirst (file_dest m line) (full_setting b.core) b.found.epoch b.found.payloads b.found_dest b.dest (entries_left b) one other
 
--- what a crash since now leaves of an honest disk is what one now leaves, and counts for one since an earlier moment
+-- a crash since now leaves of an honest disk only what a crash now leaves, and that may also be left since an earlier moment
 pub record CountsNow {D : Type 0} (m : DiskMeaning D) : Type 0 where
   pub only_now : (d : D) (bytes : List ℕ) → m.honest d ≡ true → m.since d (m.moment d) bytes → m.image d bytes
   pub counts_now : (d : D) (t : ℕ) (bytes : List ℕ) → m.honest d ≡ true → t ≤ m.moment d → m.image d bytes → m.since d t bytes
@@ -82,24 +82,25 @@ pub record IsLeft {D : Type 0} (m : DiskMeaning D) (line : List ℕ → List ℕ
   pub found_dest : b.found_dest ≡ f.dest
   pub legal : LegalOver b.core.setting b.core.past
   pub settled : SettledUnless b.trouble b.core.setting b.core.past
-  -- the found fates are those that the journal told of, and each entry that it keeps may be said, the one in hand too
+  -- the found fates are those of the journal, and the journal's format can say each entry that it keeps, the one in hand too
   pub fates : b.core.setting.fates ≡ f.said.fates
   pub can_be_said : CanBeSaid b.core.setting b.core.past (in_hand b.trouble b.core.owed)
   pub journal : HasJournal m b
   pub lines : HasLines (file_dest m line) b
   pub since : LeavesSince m line f b
   pub pair_kept : PairKeepsWhileUp m b.pair
-  -- what a crash leaves since the opening, and what it leaves now where a disk failed
+  -- what a crash leaves since the opening, and what it leaves now if a disk failed
   pub opened_since : LeavesFirst m (file_dest m line) (full_setting b.core) b.found b.pair b.found_dest b.dest (entries_left b)
   pub pair_stopped : PairKeepsWhileDown m b.pair
   pub dest_kept : KeepsWhileUp m b.dest
   pub dest_stopped : KeepsWhileDown m b.dest
-  -- no records are coming that the entry in hand names
+  -- the records that are still arriving change no payload of the entry in hand
   pub hand : payloads_in (full_setting b.core) (in_hand b.trouble b.core.owed) ≡ payloads_in b.core.setting (in_hand b.trouble b.core.owed)
   -- and it may follow, and so may the entry whose line was being delivered
   pub hand_follows : HandFollows b.core.setting b.core.past (in_hand b.trouble b.core.owed)
   pub tried_follows : HandFollows b.core.setting b.core.past (in_delivery b.trouble b.core.owed)
-  -- exactly one entry was being written where a disk failed, and the line of exactly one was being delivered where the file failed
+  -- exactly one entry was being written if a disk failed, and the line of exactly one was being delivered if the failure
+  -- file failed
   pub hand_is_one : b.trouble ≡ Some trouble.Disk → (e : Entry) × (payload : List ℕ) × (in_hand b.trouble b.core.owed ≡ e ∷ []) × (entry_payload b.core.setting e ≡ Some payload)
   pub tried_is_one : b.trouble ≡ Some trouble.Dest → (e : Entry) × (line : List ℕ) × (in_delivery b.trouble b.core.owed ≡ e ∷ []) × (entry_line e ≡ Some line)
   pub now : CountsNow m

@@ -1,4 +1,4 @@
--- What want of memory leaves of a run of batchers. This product's own.
+-- What a run of batchers leaves if memory runs out. This product's own.
 use Rattle.std.specs.Prelude.{◌≡◌, ◌⊎◌, ℕ, true, List, [], ◌∷◌, ◌++◌, Option}
 use Rattle.esm_io.specs.Told.{Grows}
 use Rattle.esm_model.specs.declared.called.Called.{Called}

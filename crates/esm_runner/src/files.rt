@@ -13,8 +13,8 @@ use std::alloc::Global;
 use std::marker::Model;
 use std::snapshot::Snapshot;
 
-/// The files of a run, opened: the journal with what its payloads say, and the failure file as a destination. Contracts see
-/// besides the disks as they were handed in.
+/// The opened files of a run: the journal with what its payloads say, and the failure file as a destination. Contracts also
+/// see the disks as they were handed in.
 #[derive(Drop)]
 pub struct Files<D: Disk> {
     pub(crate) pair: Pair<D>,
@@ -37,7 +37,7 @@ impl<D: Disk> Model for Files<D> {
         (record { journal = f.journal.value; spare = f.spare.value; failures = f.failures.value; pair = f.pair; said = f.said; dest = f.dest }) };
 }
 
-/// The files of a run, opened and taken apart, with the disks as they were handed in for the contracts alone.
+/// The opened files of a run, taken apart, with the disks as they were handed in, only for the contracts.
 #[derive(Drop)]
 pub struct FilesParts<D: Disk> {
     pub pair: Pair<D>,
@@ -51,11 +51,11 @@ pub struct FilesParts<D: Disk> {
 /// Why the files of a run were not opened.
 #[derive(Clone, Copy, Debug, PartialEq, Eq)]
 pub enum FilesError {
-    /// The file does not begin with a journal's header; of the pair, neither file is sealed.
+    /// The file does not begin with a journal's header; if it is the journal, neither file of the pair is taken.
     NotAJournal { file: JournalFile },
     /// The file is damaged at this place, in bytes from its start.
     Damaged { file: JournalFile, place: u64 },
-    /// The journal's payload with this index, counted from 0, is the first that is bad for a book.
+    /// The journal's payload with this index, counted from 0, is the first that no book could have written.
     BadPayload { index: u32 },
     /// A disk's count of faults rose.
     DiskFault,
@@ -71,14 +71,14 @@ impl From<OutOfMemory> for FilesError {
 }
 
 impl<D: Disk> Files<D> {
-    /// What is true of opened files. Does nothing.
+    /// States what is true of opened files. Does nothing.
     pub fn keeps(&self)
         ensures { IsOpenedFiles (meaning D.Disk) self.now }
     {
         let _ = &self.said;
     }
 
-    /// The files, taken apart, and the disks as they were handed in. Does nothing to them.
+    /// Takes the files apart, with the disks as they were handed in. No call is made on them.
     pub fn into_parts(self) -> FilesParts<D>
         ensures pair { result.pair ≡ self.pair }
         ensures said { result.said ≡ self.said }
@@ -104,7 +104,7 @@ impl<D: Disk> Files<D> {
         }
     }
 
-    /// The disks, as they were left: journal, spare and failure file. Nothing was written to them.
+    /// Returns the disks as they were left: journal, spare and failure file. Nothing was written to them.
     pub fn close(self) -> (D, D, D)
         ensures { AreClosed (meaning D.Disk) self result.0 result.1 result.2 }
     {
@@ -130,7 +130,7 @@ struct OpenedPair<D: Disk> {
     spare: Snapshot<D>,
 }
 
-/// Why a file was not opened.
+/// Turns the reason why a file was not opened into that of the run's files.
 fn refusal(file: JournalFile, why: OpenError) -> FilesError
     ensures { result ≡ refusal_of file why }
 {
@@ -179,7 +179,7 @@ fn open_pair<D: Disk>(
     }
 }
 
-/// Opens the failure file behind a pair that was opened.
+/// Opens the failure file, after the pair was opened.
 fn open_failures<D: Disk>(
     alloc: Global,
     opened: OpenedPair<D>,
@@ -216,8 +216,8 @@ fn open_failures<D: Disk>(
     }
 }
 
-/// Opens the journal with its spare, judges its payloads, and then opens the failure file. The first of these that is
-/// refused is told, and the disks are handed back. Nothing is written.
+/// Opens the journal with its spare, judges its payloads, and then opens the failure file. Nothing is written. If one of
+/// these is refused, returns why, with the disks; nothing is opened after it.
 pub fn open_files<D: Disk>(
     alloc: Global,
     journal: D,

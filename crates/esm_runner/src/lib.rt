@@ -1,5 +1,5 @@
-//! One run of a mapping over its devices, of a stream's or of a queue's: the files are opened and judged, the book is opened
-//! over them, the input is read, the batchers are asked, and what a run leaves is told in the words of the headline.
+//! One run of a mapping, of a stream's or of a queue's, over its devices: opens and judges the files, opens the book over
+//! them, reads the input and runs the batchers. The headline states what a run leaves.
 //! It composes the books, the input and the batchers by their public contracts.
 #![tactic(auto)]
 

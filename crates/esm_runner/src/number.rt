@@ -5,15 +5,15 @@ ghost use Rattle.esm_runner.specs.Number.{batchers_in};
 
 use esm_model::Config;
 
-/// The batchers of a queue at most; this product's own.
+/// The greatest number of batchers of a queue; this product's own.
 pub const MAX_BATCHERS: u32 = 32;
 
-/// Those of a queue whose mapping does not bound its concurrency (Lambda Developer Guide, "Using Lambda with Amazon SQS":
-/// Lambda begins with five batches at a time).
+/// The number of batchers of a queue whose mapping does not bound its concurrency (Lambda Developer Guide, "Using Lambda
+/// with Amazon SQS": Lambda begins with five batches at a time).
 pub const DEFAULT_BATCHERS: u32 = 5;
 
-/// How many batchers a queue with the configuration has: as many as its maximum concurrency, and at most 32; five where
-/// it has none. There is one at least.
+/// Returns how many batchers a queue with the configuration has: its maximum concurrency, but at most 32; five if it has
+/// none. There is at least one.
 pub fn batchers_of(config: &Config) -> u32
     requires config { IsQueueConfig config.now }
     ensures number { result ≡ batchers_in config.now }

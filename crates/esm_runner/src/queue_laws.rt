@@ -1,4 +1,4 @@
-// The laws by which the headline of a queue holds, as one.
+// The laws from which the headline of a queue follows, in one function.
 ghost use Rattle.esm_runner.specs.QueueLaws.{AreLaws};
 
 use esm_input::laws::handed_is_within;
@@ -8,8 +8,8 @@ use esm_queue_model::history_laws::{
     deleted_once, every_message_counted, legal_over_more, order_per_group, queue_calls_kept,
 };
 
-/// What holds of every history of a queue, of every payload, of the moment of the entry in hand, and of every input. Does
-/// nothing.
+/// States what holds of every history of a queue, of every payload, of the moment of the entry in hand, and of every input.
+/// Does nothing.
 pub(crate) fn laws_hold()
     ensures { AreLaws }
 {

@@ -36,7 +36,7 @@ use std::snapshot::Snapshot;
 use std::sync::Wait;
 use std::thread::Threads;
 
-/// A run that is to begin: its book, its input, the function's name and the number of its batchers.
+/// A run that is about to begin: its book, its input, the function's name and the number of its batchers.
 struct Opened<S: Source, D: Disk> {
     book: QueueBook<D>,
     input: Input<S>,
@@ -44,7 +44,7 @@ struct Opened<S: Source, D: Disk> {
     batchers: u32,
 }
 
-/// The lines of a queue of the kind.
+/// Returns the kind of lines of a queue of this kind.
 fn line_kind(kind: Kind) -> LineKind
     ensures { result ≡ LineKind.Queue (is_fifo kind) }
 {
@@ -54,7 +54,7 @@ fn line_kind(kind: Kind) -> LineKind
     }
 }
 
-/// Opens the book over a journal whose payloads are good.
+/// Opens the book over a journal whose payloads are good. `OutOfMemory` if an allocation failed, with the pair.
 fn open_book<D: Disk>(
     alloc: Global,
     config: Config,
@@ -81,7 +81,7 @@ fn open_book<D: Disk>(
     }
 }
 
-/// Opens the book over the files, and the input. Nothing is read or written.
+/// Opens the book over the files, and the input. Nothing is read or written. `OutOfMemory` if an allocation failed.
 fn begin<S: Source, D: Disk>(
     alloc: Global,
     config: Config,
@@ -203,9 +203,10 @@ fn run_opened<
     closed(end, history, pair, dest, said, read_to, source, callers)
 }
 
-/// Runs the mapping, its reader and its batchers as threads; with `read_first` no call begins before the end of the input was
-/// noted. A deletion is written to the journal before it counts. The failure file is left as it was opened, since a queue
-/// delivers no lines. `calls` is how many calls may be made in all, `visibility_ms` the visibility timeout in milliseconds.
+/// Runs the mapping, with its reader and its batchers as threads. With `read_first` no call begins before the end of the
+/// input is noted. A deletion is written to the journal before it counts. The failure file is left as it was opened, since a
+/// queue delivers no lines. `calls` is how many calls may be made in all; `visibility_ms` is the visibility timeout in
+/// milliseconds.
 pub fn run_queue<
     R: Threads + Wait + Sync,
     S: Source + Send,

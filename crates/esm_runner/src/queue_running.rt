@@ -1,4 +1,4 @@
-// A run of an opened queue's book, its reader and its batchers as threads, in the words of the book.
+// A run of an opened queue's book, with its reader and its batchers as threads, in the terms of the book.
 ghost use Rattle.std.specs.Prelude.{◌≡◌, [], None, true, false, length, IfOk, OnOk, OnErr};
 ghost use Rattle.esm_model.specs.declared.limits.TheConstants.{MAX_LANES};
 ghost use Rattle.esm_model.specs.Entries.{CallsFollowShut};
@@ -22,7 +22,7 @@ use std::alloc::Global;
 use std::sync::Wait;
 use std::thread::Threads;
 
-/// What a run of a queue's book leaves: how it ended, and all that was handed in, as it is then.
+/// What a run of a queue's book leaves: how it ended, and everything that was handed in, as it is then.
 pub(crate) struct Ran<S: Source, D: Disk, F> {
     pub end: Result<RunEnd, OutOfMemory>,
     pub book: QueueBook<D>,
@@ -30,18 +30,18 @@ pub(crate) struct Ran<S: Source, D: Disk, F> {
     pub callers: Vec<F>,
 }
 
-/// Tells what holds of every book.
+/// States what holds of every book. Does nothing.
 fn know<D: Disk>(book: &QueueBook<D>)
     ensures { IsSound book.now }
 {
     let _trouble = book.trouble();
 }
 
-/// Has the reader and the batchers work on the book, each in a thread of its own: the reader reads the input and hands its
-/// messages to the book, in lists of at most 10,000, and notes the end of the input; each batcher asks, and calls with its
-/// own caller or pauses, until nothing is left, all calls allowed were made or the book is down. With `read_first` no call
-/// begins before the input has ended. `name` is the function's, and `batchers` the number of the queue's batchers, as
-/// `batchers_of` gives it; the callers past that number are not asked. Want of memory ends it at any point.
+/// Runs the reader and the batchers on the book, each in a thread of its own. The reader reads the input, passes its
+/// messages to the book in lists of at most 10,000, and notes the end of the input. Each batcher asks the book, and calls
+/// with its own caller or pauses, until nothing is left, all calls allowed were made, or the book is down. With `read_first`
+/// no call begins before the input has ended. `name` is the function's, and `batchers` the number of the queue's batchers,
+/// as `batchers_of` returns it; the callers past that number are not used. `OutOfMemory` may end the run at any point.
 pub(crate) fn run_batchers<
     R: Threads + Wait + Sync,
     S: Source + Send,

@@ -1,4 +1,4 @@
-// What a run of a mapping leaves, how its end is told, and its devices taken apart.
+// What a run of a mapping leaves, the end of a run by that of its batchers, and its devices taken apart.
 ghost use Rattle.std.specs.Prelude.{◌≡◌, IfOk, OnErr, IsErr};
 ghost use Rattle.esm_io.specs.Meanings.{disk as meaning};
 ghost use Rattle.esm_journal.specs.Pair.{PairKeepsWhileUp, first_disk, second_disk};
@@ -17,24 +17,24 @@ use std::snapshot::Snapshot;
 /// How the run of a mapping ended.
 #[derive(Drop, Debug)]
 pub enum MappingEnd {
-    /// Every record that came has its fate, and no tumbling window is outstanding, or every message that came is deleted; the
-    /// reading of the input ended for this.
+    /// Every record that arrived has its fate, and no tumbling window is outstanding, or every message that arrived is
+    /// deleted; the reading of the input ended for this reason.
     Finished(InputEnd),
-    /// All calls allowed were made, and a record is open, or a window outstanding, or a message is not deleted, or the input,
-    /// which does not tell its bytes, had not ended.
+    /// All calls allowed were made, and a record is open, or a window outstanding, or a message is not deleted, or the
+    /// input, which does not show its bytes, had not ended.
     CallsSpent,
     /// A disk of the journal failed.
     DiskFault,
-    /// The failure file failed. A queue delivers no lines, so no run of one ends so.
+    /// The failure file failed. No run of a queue ends so, since a queue delivers no lines.
     DestFault,
-    /// A record came with another sequence number than was kept of its place, or a message that was found deleted with another
-    /// id, the first of the input that did.
+    /// A record arrived with another sequence number than the journal kept of its place, or a message that was found deleted
+    /// with another id; it is the first of the input that did.
     Changed(Change),
 }
 
-/// A run of a mapping: how it ended, its history with the oldest entry first, what its journal said before, how the reading
-/// of its input ended, for the contracts alone, and the devices as it left them. Where the reading came to no end, the input was
-/// left before.
+/// A run of a mapping: how it ended, its history (oldest entry first), what its journal said before, how the reading of its
+/// input ended (only for the contracts), and the devices as it left them. `reading` is none if the run left the input
+/// before its end.
 #[derive(Drop)]
 pub struct MappingRun<S, D, F> {
     pub end: Result<MappingEnd, OutOfMemory>,
@@ -48,7 +48,7 @@ pub struct MappingRun<S, D, F> {
     pub callers: Vec<F>,
 }
 
-/// The disks as they were handed in, for the contracts alone.
+/// The disks as they were handed in, only for the contracts.
 #[derive(Drop)]
 pub(crate) struct Before<D> {
     pub journal: Snapshot<D>,
@@ -56,8 +56,8 @@ pub(crate) struct Before<D> {
     pub failures: Snapshot<D>,
 }
 
-/// How a run ended by which the batchers came to this, with this trouble of the book, and the reading to that. Takes no memory:
-/// want of it ended the run only where it ended the batchers.
+/// Returns the end of a run whose batchers ended so, with this trouble of the book and this end of the reading. Takes no
+/// memory: it returns `OutOfMemory` only if the batchers ended with it.
 pub(crate) fn end_of(
     ran: Result<RunEnd, OutOfMemory>,
     trouble: Option<Trouble>,
@@ -83,7 +83,7 @@ pub(crate) fn end_of(
     }
 }
 
-/// The run with its devices taken apart.
+/// Makes the result of the run, with its devices taken apart.
 pub(crate) fn closed<S, F, D: Disk>(
     end: Result<MappingEnd, OutOfMemory>,
     trace: Vec<Entry>,

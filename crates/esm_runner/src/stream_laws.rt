@@ -1,4 +1,4 @@
-// The laws by which the headline holds, as one, and those of its disks.
+// The laws from which the headline follows, in one function, and those of its disks.
 ghost use Rattle.esm_io.specs.Meanings.{disk as meaning};
 ghost use Rattle.esm_runner.specs.Laws.{AreLaws};
 ghost use Rattle.esm_runner.specs.Runs.{CountsNow};
@@ -14,8 +14,8 @@ use esm_model::laws::{
 use esm_record_bounds::laws::legal_may_be_said;
 use esm_stream_book::moments::hand_is_timed;
 
-/// What holds of every history, of what its payloads say, of the moments of entries that are not added, and of every input. Does
-/// nothing.
+/// States what holds of every history, of what its payloads say, of the moments of entries that were not added, and of every
+/// input. Does nothing.
 pub(crate) fn laws_hold()
     ensures { AreLaws }
 {
@@ -35,8 +35,8 @@ pub(crate) fn laws_hold()
     handed_is_within();
 }
 
-/// What a crash since now leaves of an honest disk is what one now leaves, and counts for one since an earlier moment. Does
-/// nothing.
+/// States that a crash since now leaves of an honest disk only what a crash now leaves, and that this may also be left since
+/// an earlier moment. Does nothing.
 pub(crate) fn disks_count_now<D: Disk>()
     ensures { CountsNow (meaning D.Disk) }
 {}

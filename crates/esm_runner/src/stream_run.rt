@@ -1,4 +1,4 @@
-// The run of a stream's mapping over opened files, whichever way its failure lines go.
+// The run of a stream's mapping over opened files, with its failure lines delivered either way.
 ghost use Rattle.std.specs.Prelude.{◌≡◌, true, false, is_ok, length, reverse, IfOk, IfErr, OnErr};
 ghost use Rattle.esm_io.specs.Meanings.{disk as meaning};
 ghost use Rattle.esm_model.specs.declared.limits.TheConstants.{MAX_LANES};
@@ -32,14 +32,15 @@ use std::snapshot::Snapshot;
 use std::sync::Wait;
 use std::thread::Threads;
 
-/// A run that is to begin: its book, its input and the function's name.
+/// A run that is about to begin: its book, its input and the function's name.
 struct Opened<S: Source, D: Disk, T: Dest> {
     book: Book<D, T>,
     input: Input<S>,
     name: Text,
 }
 
-/// Opens the book over a journal whose payloads are good.
+/// Opens the book over a journal whose payloads are good. `OutOfMemory` if an allocation failed, with the pair and the
+/// destination.
 fn open_book<D: Disk, T: Dest>(
     alloc: Global,
     config: Config,
@@ -67,7 +68,7 @@ fn open_book<D: Disk, T: Dest>(
     }
 }
 
-/// Opens the book over the files, and the input. Nothing is read or written.
+/// Opens the book over the files, and the input. Nothing is read or written. `OutOfMemory` if an allocation failed.
 fn begin<S: Source, D: Disk, W: FailureFile<FileDest<D>>>(
     alloc: Global,
     config: Config,
@@ -195,9 +196,10 @@ fn run_opened<
     )
 }
 
-/// Runs the mapping from this starting position on, its reader and its batchers as threads; with `read_first` no call begins
-/// before the end of the input was noted. What is written is written before it counts: each failure line to the failure file,
-/// which it reaches as `W` has it, and then each fate, state and failed try to the journal.
+/// Runs the mapping from this starting position on, with its reader and its batchers as threads. With `read_first` no call
+/// begins before the end of the input is noted. Everything is written before it counts: each failure line to the failure
+/// file, in the form that `W` gives it, and then each fate, state and failed try to the journal. `calls` is how many calls
+/// may be made in all.
 pub fn run_stream<
     R: Threads + Wait + Sync,
     S: Source + Send,

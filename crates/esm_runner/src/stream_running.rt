@@ -1,4 +1,4 @@
-// A run of an opened stream's book, its reader and its batchers as threads, in the words of the book.
+// A run of an opened stream's book, with its reader and its batchers as threads, in the terms of the book.
 ghost use Rattle.std.specs.Prelude.{◌≡◌, ◌<◌, ◌≤◌, ◌*◌, [], None, true, false, length, min, IfOk, OnOk, OnErr};
 ghost use Rattle.esm_model.specs.declared.limits.TheConstants.{MAX_LANES, MAX_SHARDS};
 ghost use Rattle.esm_model.specs.Entries.{CallsFollowShut};
@@ -21,7 +21,7 @@ use std::alloc::Global;
 use std::sync::Wait;
 use std::thread::Threads;
 
-/// What a run of a stream's book leaves: how it ended, and all that was handed in, as it is then.
+/// What a run of a stream's book leaves: how it ended, and everything that was handed in, as it is then.
 pub(crate) struct Ran<S: Source, D: Disk, T: Dest, F> {
     pub end: Result<RunEnd, OutOfMemory>,
     pub book: Book<D, T>,
@@ -29,7 +29,7 @@ pub(crate) struct Ran<S: Source, D: Disk, T: Dest, F> {
     pub callers: Vec<F>,
 }
 
-/// How many batchers a stream has: as many as its shards can have lanes.
+/// Returns how many batchers a stream has: as many as its shards can have lanes, and at most `MAX_LANES`.
 fn batchers_for(factor: u32) -> u32
     requires some { 0 < factor }
     requires few { factor ≤ 10 }
@@ -40,17 +40,17 @@ fn batchers_for(factor: u32) -> u32
     (MAX_SHARDS as u32 * factor).min(MAX_LANES as u32)
 }
 
-/// Tells what holds of every book.
+/// States what holds of every book. Does nothing.
 fn know<D: Disk, T: Dest>(book: &Book<D, T>)
     ensures { IsSound book.now }
 {
     let _trouble = book.trouble();
 }
 
-/// Reads the input and hands its records to the book, in lists of at most 10,000, and has the batchers call, each with its
-/// caller, all as threads; with `read_first` the batchers begin once the input was read, and no call begins before its end
-/// has been noted. The run ends when nothing is left, when all calls allowed were made, also while more of the input is
-/// awaited, or when the book is down. `name` is the function's. Want of memory ends it at any point.
+/// Reads the input and passes its records to the book, in lists of at most 10,000, while the batchers call, each with its
+/// own caller, all as threads. With `read_first` the batchers begin once the input was read, and no call begins before its
+/// end was noted. The run ends when nothing is left, when all calls allowed were made, also while more of the input is
+/// awaited, or when the book is down. `name` is the function's. `OutOfMemory` may end the run at any point.
 pub(crate) fn run_lanes<
     R: Threads + Wait + Sync,
     S: Source + Send,

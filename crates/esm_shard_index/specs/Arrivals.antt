@@ -5,7 +5,7 @@ use Rattle.esm_model.specs.declared.entry.Entry.TheVariants.{Came}
 use Rattle.esm_model.specs.Entries.{came_count, came_moment}
 use Rattle.esm_shard_index.specs.declared.arrivals.Arrival.{Arrival}
 
--- the times at which records came, oldest first, how many came, and how many more times find room
+-- the times at which records came, oldest first, how many came, and for how many more times there is room
 pub record Coming : Type 0 where
   pub runs : List Arrival
   pub came : ℕ

@@ -9,7 +9,7 @@ use Rattle.esm_shard_index.specs.declared.callings.Calling.{Calling}
 use Rattle.esm_shard_index.specs.declared.callings.LastAnswer.{LastAnswer}
 use Rattle.esm_shard_index.specs.declared.callings.LastAnswer.TheVariants.{Unanswered, Plain, Failed}
 
--- what is kept of each record that came, by place, and how many more records find room
+-- what is kept of each record that came, by place, and for how many more records there is room
 pub record Called : Type 0 where
   pub records : List Calling
   pub room : ℕ
@@ -32,11 +32,11 @@ uncalled = record { calls = 0; answer = Unanswered }
 abbrev pub calls_at : Called → ℕ → ℕ
 calls_at c i = (slice_index_or c.records i uncalled).calls
 
--- the response of the last one that is kept for the place
+-- the response to the last of these calls that ended
 abbrev pub response_at : Called → ℕ → Option Response
 response_at c i = response_from (slice_index_or c.records i uncalled).answer
 
--- each place stands once among the places
+-- no place is twice among the places
 abbrev pub StandOnce : List ℕ → Type 0
 StandOnce [] = ⊤
 StandOnce (x ∷ xs) = (holds xs x ≡ false) × StandOnce xs

@@ -46,6 +46,6 @@ CallEnds h lane c =
 abbrev pub CallingsStay : List Entry → ℕ → Called → Type 0
 CallingsStay h n c = (e : Entry) → LeavesCallings n e → IsCallings h n c → IsCallings (e ∷ h) n c
 
--- the places of a call that begins stand once
+-- the batch of a call that begins has each place once
 abbrev pub BatchStandsOnce : Setting → List Entry → Type 0
 BatchStandsOnce s h = (lane : LaneId) (places : List ℕ) (closing : Option ℕ) (m : ℕ) → Legal s (Began lane places closing m ∷ h) → StandOnce places

@@ -1,4 +1,4 @@
--- What a lane that is kept says of a history. This product's own.
+-- What a kept lane says of a history. This product's own.
 use Rattle.std.specs.Prelude.{◌≡◌, ℕ, zero, suc, ◌+◌, ◌≤◌, ◌==◌, Bool, true, false, not, ◌&&◌, List, [], ◌∷◌, ◌++◌, take, Option, Some, None, option_map, unwrap_or, filter, is_some, is_none, ⊤}
 use Rattle.esm_model.specs.declared.lane.LaneId.{LaneId}
 use Rattle.esm_model.specs.declared.entry.Entry.{Entry}
@@ -26,11 +26,11 @@ pub record Tags : Type 0 where
 abbrev pub tags : Setting → List Entry → ℕ → Tags
 tags s h n = record { mark = mark s h n; tries = tries s h n; found = λ i. is_some (found_try s n i) }
 
--- the two records have one mark and the same tries
+-- the two records have the same mark and the same tries
 abbrev pub same_tag : Tags → ℕ → ℕ → Bool
 same_tag g i j = same_mark (g.mark i) (g.mark j) && (g.tries i == g.tries j)
 
--- the record stands so: it is fresh, it has found tries and no mark, or it has a mark; and its tries are these
+-- the record has this standing: it is fresh, it has found tries and no mark, or it has a mark; and these are its tries
 abbrev pub HasStanding : Tags → Standing → ℕ → Type 0
 HasStanding g Fresh i = (g.mark i ≡ None) × (g.found i ≡ false) × (g.tries i ≡ 0)
 HasStanding g (Tried n) i = (g.mark i ≡ None) × (g.found i ≡ true) × (g.tries i ≡ n) × (1 ≤ n)
@@ -40,13 +40,13 @@ HasStanding g (Split n) i = (is_some (g.mark i) ≡ true) × (g.tries i ≡ n)
 abbrev pub IsIn : List ℕ → ℕ → Type 0
 IsIn places i = holds places i ≡ true
 
--- the piece has a place, and all its places stand as it does and have one mark
+-- the piece has a place, and all its places have its standing and the same mark
 pub record IsPiece (g : Tags) (p : Piece) : Type 0 where
   pub some : HasPlaces p
   pub standing : (i : ℕ) → IsIn p.places i → HasStanding g p.standing i
   pub one : (i j : ℕ) → IsIn p.places i → IsIn p.places j → g.mark i ≡ g.mark j
 
--- the piece behind it, if there is one, has another mark or other tries
+-- the piece after it, if there is one, has another mark or other tries
 abbrev pub IsApart : Tags → Piece → List Piece → Type 0
 IsApart g p [] = ⊤
 IsApart g p (q ∷ rest) = (i j : ℕ) → IsIn p.places i → IsIn q.places j → same_tag g i j ≡ false
@@ -76,7 +76,7 @@ is_passing s n i = not (unwrap_or (option_map (is_refused s) (record_at s n i)) 
 abbrev pub sorted_places : Setting → List Entry → LaneId → List ℕ
 sorted_places s h lane = filter (is_passing s lane.shard) (open_places s h lane)
 
--- it is the lane's last call: of the first so many places of the front piece; a final call has none
+-- this is the lane's last call, of the first places of the front piece; a final call has none
 pub record IsCall (h : List Entry) (lane : LaneId) (pieces : List Piece) (r : Running) : Type 0 where
   pub call : Call
   pub last : last_call h lane ≡ Some call
@@ -85,9 +85,9 @@ pub record IsCall (h : List Entry) (lane : LaneId) (pieces : List Piece) (r : Ru
   pub closing : call.closing ≡ r.closing
   pub final : (w : ℕ) → r.closing ≡ Some w → r.count ≡ 0
 
--- the lane is as the history says: what it owes a fate and its pieces are the places of its open records that pass;
--- its pieces are the records of one mark and the same tries; it runs its last call, and its failures in a row and the
--- moment of its last end are those of the history
+-- the lane is as the history says: the places to which it owes a fate, and then those of its pieces, are those of its open
+-- records that pass the filter; each piece is the records of one mark and the same tries; it runs its last call, and its
+-- failures in a row and the moment of its last end are those of the history
 pub record IsLane (s : Setting) (h : List Entry) (lane : LaneId) (v : LaneView) : Type 0 where
   pub places : owed_places (debts s h lane) ++ piece.open_places v.kept.pieces ≡ sorted_places s h lane
   pub pieces : ArePieces (tags s h lane.shard) v.kept.pieces
@@ -98,7 +98,7 @@ pub record IsLane (s : Setting) (h : List Entry) (lane : LaneId) (v : LaneView) 
 
 -- records that come
 
--- so many places from the first on
+-- `count` places from the first on
 abbrev pub places_from : ℕ → ℕ → List ℕ
 places_from first zero = []
 places_from first (suc count) = places_from first count ++ (first + count) ∷ []

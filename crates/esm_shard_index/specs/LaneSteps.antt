@@ -1,4 +1,4 @@
--- What one more entry makes of a lane that is kept, and what is read of it. This product's own.
+-- What one more entry does to a kept lane, and what is read of the lane. This product's own.
 use Rattle.std.specs.Prelude.{◌≡◌, ℕ, ◌+◌, ◌<◌, ◌≤◌, ◌==◌, Bool, List, [], ◌∷◌, length, Some, if◌then◌else◌, slice_index, IsSome}
 use Rattle.esm_model.specs.declared.moment.TheConstants.{MAX_MOMENT}
 use Rattle.esm_model.specs.Lane.{same_lane}
@@ -29,7 +29,7 @@ abbrev pub lane_told : Setting → List Entry → LaneId → LaneView
 lane_told s [] lane = empty_view
 lane_told s (e ∷ h) lane = after_entry s h lane (lane_told s h lane) e
 
--- the lane's group is these places, and its first record is fresh or not and has so many tries
+-- these places are the lane's group; whether its first record is fresh, and the tries of that record
 pub record IsGroupOf (s : Setting) (h : List Entry) (lane : LaneId) (places : List ℕ) (fresh : Bool) (count : ℕ) : Type 0 where
   pub group : group s h lane ≡ places
   pub fresh_is : is_fresh s h lane.shard (slice_index places 0) ≡ fresh
@@ -54,7 +54,7 @@ pub record IsBounded (h : List Entry) (lane : LaneId) (v : LaneView) : Type 0 wh
   pub last_end : v.state.last_end ≤ MAX_MOMENT
   pub called : running_count v.state.running ≤ front_length v.kept.pieces
 
--- so many records that come add no more places than so, and use no more of the arrivals that are reserved
+-- records that come add no more places than they are, and use no more reserved arrivals
 pub record ArrivalsFit (s : Setting) (lane : LaneId) (first count : ℕ) (before after : LaneView) : Type 0 where
   pub places : length (piece.open_places after.kept.pieces) ≤ length (piece.open_places before.kept.pieces) + count
   pub adds : before.kept.adds ≤ after.kept.adds + count

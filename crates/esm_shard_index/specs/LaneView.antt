@@ -38,12 +38,12 @@ state_at states n = slice_index_or states n idle
 abbrev pub lane_in : Table → ℕ → LaneView
 lane_in t n = record { kept = lane_at t.lanes n; state = state_at t.states n }
 
--- a record with no found tries is fresh, another one has those
+-- a record without found tries is fresh, any other has those
 abbrev pub standing_of : Option ℕ → Standing
 standing_of None = Fresh
 standing_of (Some tries) = Tried tries
 
--- the tries of the front piece, 0 where there is none
+-- the tries of the front piece, 0 if there is none
 abbrev pub front_tries : List Piece → ℕ
 front_tries [] = 0
 front_tries (p ∷ rest) = tries_of p.standing
@@ -82,12 +82,11 @@ after_reserved adds splits v = record { kept = after_reserve adds splits v.kept;
 
 -- the end of a call
 
--- the first places of the front piece, where there are any, become a piece with so many tries
+-- the first places of the front piece, if any, become a piece with these tries
 abbrev pub set_apart : ℕ → ℕ → Lane → Lane
 set_apart first tries l = if first == 0 then l else after_split first tries l
 
--- the rest of a batch, which is the first so many places of the front piece: it stays, has one more try, is halved, or
--- is given up
+-- the rest of a batch, the first `left` places of the front piece: it stays, has one more try, is halved, or is given up
 abbrev pub after_rest : Rest → ℕ → Lane → Lane
 after_rest rest.Nothing left l = l
 after_rest rest.Again left l = l
@@ -95,7 +94,7 @@ after_rest rest.Counted left l = set_apart left (capped_tries (front_tries l.pie
 after_rest (rest.Split k) left l = set_apart (min k left) (front_tries l.pieces) (set_apart left (front_tries l.pieces) l)
 after_rest rest.Exhausted left l = after_shorten left l
 
--- of a batch of so many places those that succeeded go
+-- of a batch of `count` places, those that succeeded leave the lane
 abbrev pub after_batch : Verdict → ℕ → Lane → Lane
 after_batch v count l = after_rest v.rest (count - min v.succeeded count) (after_shorten (min v.succeeded count) l)
 

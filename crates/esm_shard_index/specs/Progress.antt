@@ -10,7 +10,7 @@ use Rattle.esm_model.specs.Fates.{given, has_fate, fate_count}
 use Rattle.esm_shard_index.specs.declared.progress.FateCounts.{FateCounts}
 use Rattle.esm_shard_index.specs.FateCounts.{count_in}
 
--- by place whether the record has a fate, how many have which, and how many more records find room
+-- by place whether the record has a fate, how many have which, and for how many more records there is room
 pub record Tally : Type 0 where
   pub fated : List Bool
   pub counts : FateCounts
@@ -20,11 +20,11 @@ pub record Tally : Type 0 where
 abbrev pub number_of : List Bool → ℕ
 number_of fated = length (filter (λ b. b) fated)
 
--- how many in front all have a fate
+-- how many places at the front have a fate, without a gap
 abbrev pub front_of : List Bool → ℕ
 front_of fated = length (take_while (λ b. b) fated)
 
--- how many behind that front have one
+-- how many after these have one
 abbrev pub past_of : List Bool → ℕ
 past_of fated = number_of (drop (front_of fated) fated)
 

@@ -4,7 +4,7 @@ use Rattle.esm_shard_index.specs.declared.progress.FateCounts.{FateCounts}
 use Rattle.esm_shard_index.specs.FateCounts.{total}
 use Rattle.esm_shard_index.specs.Progress.{number_of, front_of}
 
--- the frontier is known, the counts are of those that have a fate, and their number fits 32 bits
+-- the frontier and the counts are those of the records, and the number of records fits 32 bits
 pub record IsTally (fated : List Bool) (counts : FateCounts) (frontier : ℕ) : Type 0 where
   pub front : frontier ≡ front_of fated
   pub all : total counts ≡ number_of fated

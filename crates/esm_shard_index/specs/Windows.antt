@@ -28,7 +28,7 @@ tries_in t w = count_at t.tries w
 abbrev pub state_in : WindowTable → ℕ → Option (List ℕ)
 state_in t w = text_at t.states w
 
--- how often the window stands among the windows
+-- how often the window is among the windows
 abbrev pub times : List ℕ → ℕ → ℕ
 times windows w = length (filter (λ x. x == w) windows)
 

@@ -22,7 +22,7 @@ use Rattle.esm_shard_index.specs.Windows.{WindowTable, open_in, state_in, tries_
 abbrev pub open_windows : Setting → ℕ → ℕ → ℕ → List ℕ
 open_windows s n first count = map (window_of s n) (filter (λ i. is_none (found_at s n i)) (places_from first count))
 
--- before anything came; tries above the cap are none that a journal told
+-- before anything came, with what was found of the windows; found tries are capped
 abbrev pub WindowsBegin : Setting → ℕ → WindowTable → Type 0
 WindowsBegin s n t =
     ((w : ℕ) → open_in t w ≡ 0) → ((w : ℕ) → state_in t w ≡ found_state s n w) → ((w : ℕ) → tries_in t w ≡ capped_tries (found_window_tries s n w))
@@ -54,7 +54,7 @@ abbrev pub closing_of : Option Call → Option ℕ
 closing_of None = None
 closing_of (Some call) = call.closing
 
--- a call of one of its lanes ends: a try of the window that it closes counts where the verdict says so
+-- a call of one of its lanes ends: a try of the window that it closes counts if the verdict says so
 abbrev pub WindowsEnd : Setting → List Entry → LaneId → WindowTable → Type 0
 WindowsEnd s h lane t =
     (after : WindowTable) (reply : Reply) (m : ℕ) → IsWindows s h lane.shard t
@@ -75,7 +75,7 @@ WindowsClose s h lane t =
 abbrev pub WindowsStay : Setting → List Entry → ℕ → WindowTable → Type 0
 WindowsStay s h n t = (e : Entry) → LeavesWindows n e → IsWindows s h n t → IsWindows s (e ∷ h) n t
 
--- what is read off the table of a shard that came, where windows are configured
+-- what is read off the table of a shard that came, if windows are configured
 pub record WindowsTell (s : Setting) (h : List Entry) (n : ℕ) (t : WindowTable) : Type 0 where
   pub outstanding_is : (w : ℕ) → is_outstanding s h n w ≡ is_some (state_in t w)
   pub due_is : (w : ℕ) → is_due s h n w ≡ is_due_in t (is_shut h) w

@@ -8,15 +8,15 @@ use esm_model::OutOfMemory;
 use std::alloc::Global;
 use std::marker::Model;
 
-/// Records that came at once: those from the place `first` on, at the moment in milliseconds.
+/// Records that came at once: those from the place `first` on, at this moment in milliseconds.
 #[derive(Clone, Copy, Debug)]
 pub struct Arrival {
     pub first: u32,
     pub moment: u64,
 }
 
-/// The moments at which the records of a shard came: a run for each time that some did. Once the room is
-/// reserved, nothing takes memory.
+/// The moments at which the records of a shard came: a run for each time that some did. In reserved room nothing takes
+/// memory.
 #[derive(Drop, Debug)]
 pub struct Arrivals {
     runs: Vec<Arrival>,
@@ -37,7 +37,7 @@ impl Model for Arrivals {
 }
 
 impl Arrivals {
-    /// No record came.
+    /// Of a shard of which no record came.
     pub fn new(alloc: Global) -> Self
         ensures runs { result.runs ≡ [] }
         ensures came { result.came ≡ 0 }
@@ -48,7 +48,7 @@ impl Arrivals {
         }
     }
 
-    /// Room for so many more times at which records come.
+    /// Reserves room for `times` more times at which records come.
     pub fn reserve(&mut self, times: usize) -> Result<(), OutOfMemory>
         ensures runs { self.new.runs ≡ self.old.runs }
         ensures came { self.new.came ≡ self.old.came }
@@ -60,7 +60,7 @@ impl Arrivals {
         Ok(())
     }
 
-    /// So many more records came, at the moment in milliseconds.
+    /// `count` more records came, at this moment in milliseconds.
     pub fn came(&mut self, count: u32, moment: u64)
         requires room { 0 < self.old.room }
         requires few { self.old.came + count ≤ u32.MAX }

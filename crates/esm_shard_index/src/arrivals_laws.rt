@@ -1,5 +1,5 @@
-//! How the moments of arrival as they are kept follow the history, each law as the contract of a function that does
-//! nothing. A history is written newest entry first.
+//! How the kept moments of arrival follow the history. Each law is the contract of a function that does nothing. A history
+//! is written newest entry first.
 ghost use Rattle.std.specs.Prelude.{ℕ, List};
 ghost use Rattle.esm_model.specs.declared.entry.Entry.{Entry};
 ghost use Rattle.esm_shard_index.specs.Arrivals.{Coming};

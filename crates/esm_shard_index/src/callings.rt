@@ -7,12 +7,12 @@ use esm_model::{OutOfMemory, Response};
 use std::alloc::Global;
 use std::marker::Model;
 
-/// What the last call that ended was answered.
+/// The answer to the last call that ended.
 #[derive(Clone, Copy, Debug)]
 pub enum LastAnswer {
     /// It was lost or garbled, or no call ended.
     Unanswered,
-    /// A status, without the header that tells of an error.
+    /// A status, without the header that reports a function error.
     Plain(u16),
     /// A status, with that header.
     Failed(u16),
@@ -51,7 +51,7 @@ impl LastAnswer {
     }
 }
 
-/// The calls of this run whose batch held a record, and the answer of the last one that ended: eight bytes.
+/// The calls of this run whose batch held a record, and the answer to the last one that ended: eight bytes.
 #[derive(Clone, Copy, Debug)]
 pub struct Calling {
     pub calls: u32,
@@ -60,7 +60,7 @@ pub struct Calling {
 
 const _: () = prove!(size_of::<Calling>() == 8);
 
-/// The calls of each record of a shard. Once the room is reserved, nothing takes memory.
+/// The calls of each record of a shard. In reserved room nothing takes memory.
 #[derive(Drop, Debug)]
 pub struct Callings {
     records: Vec<Calling>,
@@ -76,7 +76,7 @@ impl Model for Callings {
 }
 
 impl Callings {
-    /// No record came.
+    /// Of a shard of which no record came.
     pub fn new(alloc: Global) -> Self
         ensures { result.records ≡ [] }
     {
@@ -85,7 +85,7 @@ impl Callings {
         }
     }
 
-    /// Room for so many more records.
+    /// Reserves room for `count` more records.
     pub fn reserve(&mut self, count: usize) -> Result<(), OutOfMemory>
         ensures records { self.new.records ≡ self.old.records }
         ensures room { self.old.room ≤ self.new.room }
@@ -96,7 +96,7 @@ impl Callings {
         Ok(())
     }
 
-    /// So many more records came.
+    /// `count` more records came.
     pub fn came(&mut self, count: usize)
         requires room { count ≤ self.old.room }
         ensures len { length self.new.records ≡ length self.old.records + count }
@@ -189,7 +189,7 @@ impl Callings {
         self.records[place as usize].calls
     }
 
-    /// The answer of the last of these that ended.
+    /// The answer to the last of these calls that ended; `None` if it was lost or garbled, or none ended.
     pub fn response(&self, place: u32) -> Option<Response>
         requires { place < length self.now.records }
         ensures { result ≡ response_at self.now place }

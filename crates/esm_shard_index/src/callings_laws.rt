@@ -1,5 +1,5 @@
-//! How the calls of a shard's records as they are kept follow the history, each law as the contract of a function that
-//! does nothing. A history is written newest entry first.
+//! How the kept calls of a shard's records follow the history. Each law is the contract of a function that does nothing. A
+//! history is written newest entry first.
 ghost use Rattle.std.specs.Prelude.{ℕ, List};
 ghost use Rattle.esm_model.specs.declared.lane.LaneId.{LaneId};
 ghost use Rattle.esm_model.specs.declared.entry.Entry.{Entry};
@@ -22,7 +22,7 @@ pub fn call_begins()
     ensures { (h : List Entry) (lane : LaneId) (c : Called) → CallBegins h lane c }
 {}
 
-/// The answer of a call that ends is that of each place of its batch.
+/// The answer to a call that ends is that of each place of its batch.
 pub fn call_ends()
     ensures { (h : List Entry) (lane : LaneId) (c : Called) → CallEnds h lane c }
 {}
@@ -32,7 +32,7 @@ pub fn callings_stay()
     ensures { (h : List Entry) (n : ℕ) (c : Called) → CallingsStay h n c }
 {}
 
-/// The places of a call that begins in a legal history stand once.
+/// The batch of a call that begins in a legal history has each place once.
 pub fn batch_stands_once()
     ensures { (s : Setting) (h : List Entry) → BatchStandsOnce s h }
 {}

@@ -7,7 +7,7 @@ use esm_lanes::Lanes;
 use esm_model::{MAX_TRIES, Rest, Verdict};
 use std::alloc::Global;
 
-/// The tries of the front piece; 0 where there is none.
+/// The tries of the front piece; 0 if there is none.
 fn front_tries_of(lanes: &Lanes, lane: u32) -> u32
     requires { lane < length lanes.now }
     ensures { result ≡ front_tries (lane_at lanes.now lane).pieces }
@@ -18,8 +18,8 @@ fn front_tries_of(lanes: &Lanes, lane: u32) -> u32
     }
 }
 
-/// The first places of the front piece, where there are any, become a piece with so many tries; within the splits
-/// that are reserved.
+/// Makes the first `first` places of the front piece a piece with `tries` tries; does nothing if `first` is 0. Uses a
+/// reserved split.
 fn split_off(lanes: &mut Lanes, alloc: Global, lane: u32, first: u32, tries: u32)
     requires known { lane < length lanes.old }
     requires within { first ≤ front_length (lane_at lanes.old lane).pieces }
@@ -31,7 +31,7 @@ fn split_off(lanes: &mut Lanes, alloc: Global, lane: u32, first: u32, tries: u32
     }
 }
 
-/// What becomes of the rest of a batch: the first `left` places of the front piece.
+/// Applies the ruling on the rest of a batch, which is the first `left` places of the front piece.
 fn end_rest(lanes: &mut Lanes, alloc: Global, lane: u32, rest: Rest, left: u32)
     requires known { lane < length lanes.old }
     requires within { left ≤ front_length (lane_at lanes.old lane).pieces }

@@ -6,8 +6,8 @@ ghost use Rattle.esm_shard_index.specs.LaneView as spec;
 
 use esm_model::{MAX_MOMENT, Rest};
 
-/// A call that runs: so many places of the lane's front piece, and the start of the window that a final call closes,
-/// in milliseconds. A final call has no places.
+/// A running call: the number of its places, which are the first of the lane's front piece, and the start of the window that
+/// a final call closes, in milliseconds. A final call has no places.
 #[derive(Clone, Copy, Debug, PartialEq, Eq)]
 pub struct Running {
     pub count: u32,
@@ -17,9 +17,9 @@ pub struct Running {
 /// What is kept of a lane beside its pieces.
 #[derive(Clone, Copy, Debug)]
 pub struct LaneState {
-    /// The call that runs.
+    /// The running call, if there is one.
     pub running: Option<Running>,
-    /// The number of the lane's last calls in a row after which it waits.
+    /// How many of the lane's last calls in a row ended so that the lane waits.
     pub failures: u64,
     /// The moment at which the lane's last call ended, in milliseconds; 0 before the first.
     pub last_end: u64,
@@ -33,7 +33,7 @@ impl LaneState {
         last_end: 0,
     };
 
-    /// The number of places of the call that runs; 0 where none does.
+    /// The number of places of the running call; 0 if none runs.
     pub fn running_count(self) -> u32
         ensures { result ≡ spec.running_count self.running }
     {
@@ -54,7 +54,7 @@ impl LaneState {
         }
     }
 
-    /// The call ends at this moment, and so becomes of its rest.
+    /// The call ends at this moment, in milliseconds, with this ruling on its rest.
     pub fn ended(self, rest: Rest, moment: u64) -> LaneState
         requires { self.failures < u64.MAX }
         ensures running { result.running ≡ None }
@@ -72,8 +72,8 @@ impl LaneState {
         }
     }
 
-    /// The moment at which the lane's delay runs out, in milliseconds: a quarter of a second after one failure,
-    /// twice as long after each further one, a minute at most; 0 where there is none.
+    /// The moment at which the lane's delay runs out, in milliseconds: a quarter of a second after one failure, twice as
+    /// long after each further one, a minute at most; 0 if there is none.
     pub fn delay_end(self) -> u64
         requires { self.last_end ≤ MAX_MOMENT }
         ensures { result ≡ delay_from self.failures self.last_end }

@@ -11,8 +11,8 @@ use esm_model::{OutOfMemory, Verdict};
 use std::alloc::Global;
 use std::marker::Model;
 
-/// The lanes of a stream's book by number: for each the pieces of its open places, the call that runs, and what its
-/// delay is computed from.
+/// The lanes of a stream's book by number: for each the pieces of its open places, the running call, and what its delay is
+/// computed from.
 ///
 /// A place leaves the pieces when its call ends, before the entry that gives it its fate. Each call takes constant
 /// time, taken over many calls, and only `new` and `reserve` take memory.
@@ -35,7 +35,7 @@ impl Model for LaneTable {
 }
 
 impl LaneTable {
-    /// So many lanes, 1 to 64, with no place.
+    /// `lanes` lanes, 1 to 64, without places.
     pub fn new(alloc: Global, lanes: u32) -> Result<LaneTable, OutOfMemory>
         requires some { 1 ≤ lanes }
         requires most { lanes ≤ MAX_LANES }
@@ -53,8 +53,8 @@ impl LaneTable {
         })
     }
 
-    /// Memory for the next so many arrivals in the lane and for the next so many splits of its front piece; the end of
-    /// a call needs two. After `OutOfMemory` nothing has changed.
+    /// Reserves memory for the next `adds` arrivals in the lane and for the next `splits` splits of its front piece; the end
+    /// of a call needs two. After `OutOfMemory` nothing has changed.
     pub fn reserve(
         &mut self,
         alloc: Global,
@@ -72,8 +72,8 @@ impl LaneTable {
         self.lanes.reserve(alloc, lane, adds, splits)
     }
 
-    /// One more record of the lane came, with the tries that were found of it at opening, 1 to 10,001, if there are
-    /// any. Within the arrivals that are reserved; takes no memory.
+    /// One more record of the lane came, with the tries that were found of it at opening, 1 to 10,001, if there are any.
+    /// Uses a reserved arrival; takes no memory.
     pub fn add(&mut self, alloc: Global, lane: u32, place: u32, tries: Option<u32>)
         requires known { lane < length self.old.lanes }
         requires few { length (open_places (spec.lane_in self.old lane).kept.pieces) < u32.MAX }
@@ -94,7 +94,7 @@ impl LaneTable {
         }
     }
 
-    /// A call of the lane begins: of so many places of its front piece, or a final call of none.
+    /// A call of the lane begins: of the first places of its front piece, or a final call of none.
     pub fn begin(&mut self, lane: u32, running: Running)
         requires known { lane < length self.old.lanes }
         ensures lane { spec.lane_in self.new lane ≡ spec.after_began running (spec.lane_in self.old lane) }
@@ -105,9 +105,9 @@ impl LaneTable {
         self.states[lane as usize] = state.began(running);
     }
 
-    /// The call that runs ends at this moment, in milliseconds, with this verdict: what succeeded or is given up goes,
-    /// and what is tried again or halved is set apart (Lambda Developer Guide, error handling for Kinesis). Within the
-    /// splits that are reserved; takes no memory.
+    /// The running call ends at this moment, in milliseconds, with this verdict: what succeeded or is given up leaves the
+    /// lane, and what is tried again or halved is set apart (Lambda Developer Guide, error handling for Kinesis). Needs two
+    /// reserved splits; takes no memory.
     pub fn end(&mut self, alloc: Global, lane: u32, verdict: Verdict, moment: u64)
         requires known { lane < length self.old.lanes }
         requires within { spec.running_count (spec.lane_in self.old lane).state.running ≤ front_length (spec.lane_in self.old lane).kept.pieces }
@@ -122,8 +122,8 @@ impl LaneTable {
         self.states[lane as usize] = state.ended(verdict.rest, moment);
     }
 
-    /// The first so many records of the front piece expire (Lambda Developer Guide, `MaximumRecordAgeInSeconds`).
-    /// Takes no memory.
+    /// The first `count` records of the front piece expire (Lambda Developer Guide, `MaximumRecordAgeInSeconds`). Takes no
+    /// memory.
     pub fn expire(&mut self, lane: u32, count: u32)
         requires known { lane < length self.old.lanes }
         requires within { count ≤ front_length (spec.lane_in self.old lane).kept.pieces }
@@ -134,7 +134,7 @@ impl LaneTable {
         self.lanes.shorten(lane, count);
     }
 
-    /// The lane's front piece; `None` exactly where the lane has no place.
+    /// The lane's front piece; `None` if and only if the lane has no place.
     pub fn front(&self, lane: u32) -> Option<Front<'_>>
         requires known { lane < length self.now.lanes }
         ensures none { IsNone result ↔ (open_places (spec.lane_in self.now lane).kept.pieces ≡ []) }
@@ -152,7 +152,7 @@ impl LaneTable {
         self.lanes.count(lane)
     }
 
-    /// The places of the call that runs, in order; none where none runs or a final call does.
+    /// The places of the running call, in order; none if no call runs or a final call does.
     pub fn called(&self, lane: u32) -> &[u32]
         requires known { lane < length self.now.lanes }
         requires within { spec.running_count (spec.lane_in self.now lane).state.running ≤ front_length (spec.lane_in self.now lane).kept.pieces }
@@ -165,7 +165,7 @@ impl LaneTable {
         }
     }
 
-    /// The call that runs, and what the delay is computed from.
+    /// The running call, and what the delay is computed from.
     pub fn state(&self, lane: u32) -> LaneState
         requires { lane < length self.now.lanes }
         ensures { result ≡ (spec.lane_in self.now lane).state }

@@ -79,8 +79,8 @@ impl FateCounts {
     }
 }
 
-/// Which records of a shard have a fate, how many have which, and the checkpoint: the number of records in
-/// front that all have one. A record takes one byte. Once the room is reserved, nothing takes memory.
+/// Which records of a shard have a fate, how many have which, and the checkpoint: how many of the first records all have
+/// one. A record takes one byte. In reserved room nothing takes memory.
 #[derive(Drop, Debug)]
 pub struct Progress {
     fated: Vec<bool>,
@@ -102,7 +102,7 @@ impl Model for Progress {
 }
 
 impl Progress {
-    /// No record came.
+    /// Of a shard of which no record came.
     pub fn new(alloc: Global) -> Self
         ensures fated { result.fated ≡ [] }
         ensures counts { (f : Fate) → count_in result.counts f ≡ 0 }
@@ -114,7 +114,7 @@ impl Progress {
         }
     }
 
-    /// Room for so many more records.
+    /// Reserves room for `count` more records.
     pub fn reserve(&mut self, count: usize) -> Result<(), OutOfMemory>
         ensures fated { self.new.fated ≡ self.old.fated }
         ensures counts { self.new.counts ≡ self.old.counts }
@@ -126,7 +126,7 @@ impl Progress {
         Ok(())
     }
 
-    /// So many more records came, each with the fate that was found for it, if one was.
+    /// One more record came for each element, with the fate that was found for it, if one was.
     pub fn came(&mut self, found: &[Option<Fate>])
         requires room { length found.now ≤ self.old.room }
         requires few { length self.old.fated + length found.now ≤ u32.MAX }
@@ -189,7 +189,7 @@ impl Progress {
         self.fated.len() as u32
     }
 
-    /// The number of records in front that all have a fate.
+    /// How many of the first records all have a fate.
     pub fn checkpoint(&self) -> u32
         ensures { result ≡ front_of self.now.fated }
     {
@@ -211,7 +211,7 @@ impl Progress {
     }
 }
 
-/// The number of records in front that all have a fate, of which so many are known.
+/// How many of the first records all have a fate, when at least `known` of them do.
 fn frontier_from(fated: &[bool], known: u32) -> u32
     requires known { known ≤ front_of fated.now }
     requires few { length fated.now ≤ u32.MAX }

@@ -1,5 +1,5 @@
-//! How the fates of a shard as they are kept follow the history, each law as the contract of a function that does
-//! nothing. A history is written newest entry first.
+//! How the kept fates of a shard follow the history. Each law is the contract of a function that does nothing. A history is
+//! written newest entry first.
 ghost use Rattle.std.specs.Prelude.{ℕ, List};
 ghost use Rattle.esm_model.specs.declared.entry.Entry.{Entry};
 ghost use Rattle.esm_model.specs.Setting.{Setting};
@@ -26,7 +26,7 @@ pub fn progress_stays()
     ensures { (s : Setting) (h : List Entry) (n : ℕ) (t : Tally) → ProgressStays s h n t }
 {}
 
-/// The checkpoint, the spread and the number of open records.
+/// The checkpoint, the spread and the number of open records are those of the history.
 pub fn progress_tells()
     ensures { (s : Setting) (h : List Entry) (n : ℕ) (t : Tally) → IsProgress s h n t → ProgressTells s h n t }
 {}

@@ -1,4 +1,4 @@
-// A number kept for each window, with entries that are made beforehand.
+// A number for each window, in entries that can be prepared.
 ghost use Rattle.std.specs.Prelude.{◌≡◌, ℕ, ◌==◌, true, false, [], if◌then◌else◌, OnOk};
 ghost use Rattle.esm_model.specs.Entries.{holds};
 ghost use Rattle.esm_shard_index.specs.WindowEntries.{count_at, has_entry};
@@ -8,7 +8,7 @@ use std::alloc::Global;
 use std::collections::BTreeMap;
 use std::marker::Model;
 
-/// A number for each window, 0 where none is kept. An entry that was made beforehand takes a number without memory.
+/// A number for each window, 0 if none is kept. Putting a number into a prepared entry takes no memory.
 #[derive(Drop, Debug)]
 pub struct WindowCounts {
     counts: BTreeMap<u64, u32>,
@@ -72,7 +72,7 @@ impl WindowCounts {
         let _ = self.counts.insert(window, count);
     }
 
-    /// Keeps 0 for the window, and takes its entry out.
+    /// Sets the window's number to 0, and removes its entry.
     pub fn remove(&mut self, window: u64)
         ensures counts { (w : ℕ) → count_at self.new w ≡ (if window == w then 0 else count_at self.old w) }
         ensures entries { (w : ℕ) → (window == w) ≡ false → has_entry self.old w ≡ true → has_entry self.new w ≡ true }

@@ -47,7 +47,7 @@ impl Windows {
         }
     }
 
-    /// The journal told this state of the window.
+    /// The journal had this state of the window at opening.
     pub fn found_state(&mut self, window: u64, text: Bytes) -> Result<(), OutOfMemory>
         ensures ok { OnOk result ((w : ℕ) → state_in self.new w ≡ (if window == w then Some text else state_in self.old w)) }
         ensures err { OnErr result ((w : ℕ) → state_in self.new w ≡ state_in self.old w) }
@@ -59,7 +59,7 @@ impl Windows {
         Ok(())
     }
 
-    /// The journal told of so many failed final calls of the window.
+    /// The journal had `tries` failed tries of the window's final call at opening.
     pub fn found_tries(&mut self, window: u64, tries: u32) -> Result<(), OutOfMemory>
         ensures ok { OnOk result ((w : ℕ) → tries_in self.new w ≡ (if window == w then tries else tries_in self.old w)) }
         ensures err { OnErr result ((w : ℕ) → tries_in self.new w ≡ tries_in self.old w) }
@@ -72,7 +72,7 @@ impl Windows {
         Ok(())
     }
 
-    /// Memory for records of these windows; what is told of windows stays.
+    /// Prepares memory for records of these windows; what is kept of windows stays.
     pub fn prepare_open(&mut self, windows: &[u64]) -> Result<(), OutOfMemory>
         ensures opened { (w : ℕ) → open_in self.new w ≡ open_in self.old w }
         ensures entries { (w : ℕ) → has_entry self.old.opened w ≡ true → has_entry self.new.opened w ≡ true }
@@ -84,7 +84,7 @@ impl Windows {
         self.opened.prepare(windows)
     }
 
-    /// Memory for a state of this window, and for a failed try of its final call; what is told of windows stays.
+    /// Prepares memory for a state of this window, and for a failed try of its final call; what is kept of windows stays.
     pub fn prepare_window(&mut self, window: u64) -> Result<(), OutOfMemory>
         ensures states { (w : ℕ) → state_in self.new w ≡ state_in self.old w }
         ensures tries { (w : ℕ) → tries_in self.new w ≡ tries_in self.old w }
@@ -125,7 +125,7 @@ impl Windows {
         self.opened.put(window, count + 1);
     }
 
-    /// Records got a fate: these are their windows, one for each. A window without an open record takes no memory.
+    /// Records got a fate: these are their windows, one for each. A window that has no open record left takes no memory.
     pub fn fated(&mut self, windows: &[u64])
         ensures opened { (w : ℕ) → open_in self.new w ≡ open_in self.old w - times windows.now w }
         ensures last { self.new.last ≡ self.old.last }
@@ -146,7 +146,7 @@ impl Windows {
         lower(&mut self.opened, window);
     }
 
-    /// The window has this state now.
+    /// The window, which was prepared, has this state now.
     pub fn state_given(&mut self, window: u64, text: Bytes)
         requires { has_entry self.old.states window ≡ true }
         ensures states { (w : ℕ) → state_in self.new w ≡ (if window == w then Some text else state_in self.old w) }
@@ -157,7 +157,7 @@ impl Windows {
         let _ = self.states.insert(window, Some(text));
     }
 
-    /// A failed try of the window's final call counts.
+    /// One more failed try of the window's final call counts, up to `MAX_TRIES`.
     pub fn tried(&mut self, window: u64)
         requires { has_entry self.old.tries window ≡ true }
         ensures tries { (w : ℕ) → tries_in self.new w ≡ (if window == w then capped_tries (tries_in self.old w + 1) else tries_in self.old w) }
@@ -214,7 +214,7 @@ impl Windows {
     }
 }
 
-/// One open record less, where there is one; an entry without one goes.
+/// Counts one open record less, if there is one; a window that has none left loses its entry.
 fn lower(counts: &mut WindowCounts, window: u64)
     ensures { (w : ℕ) → count_at counts.new w ≡ (if window == w then count_at counts.old w - 1 else count_at counts.old w) }
 {
@@ -260,7 +260,7 @@ fn has_state(states: &BTreeMap<u64, Option<Bytes>>) -> bool
     false
 }
 
-/// The first window that is due. One that is not before the last record's is not, nor is any after it.
+/// The first window that is due. Unless the book is shut, neither the last record's window is, nor any after it.
 fn first_due(
     states: &BTreeMap<u64, Option<Bytes>>,
     opened: &WindowCounts,

@@ -21,7 +21,7 @@ IsServed setup history k lane = batcher (setting_told setup history) (entries_to
 abbrev pub Rests : Setup → List Told → ℕ → Type 0
 Rests setup history k = (lane : LaneId) → IsServed setup history k lane → is_running (entries_told history) lane ≡ false
 
--- the job is of the call that a lane of the batcher runs
+-- the job is that of the call that a lane of the batcher runs
 pub record RunsJob (setup : Setup) (history : List Told) (k : ℕ) (job : Job) : Type 0 where
   pub served : IsServed setup history k job.lane
   pub came : 1 ≤ came_count (entries_told history) job.lane.shard

@@ -1,4 +1,4 @@
--- What contracts see of a stream's book, and what its devices tell of its history. This product's own.
+-- What contracts see of a stream's book, and what its devices have of its history. This product's own.
 use Rattle.std.specs.Prelude.{◌≡◌, ◌++◌, ℕ, Bool, true, List, [], map, Option, is_some, unwrap_or}
 use Rattle.std.specs.List.{filter_map}
 use Rattle.std.specs.Coded.{Coded}
@@ -14,9 +14,9 @@ use Rattle.esm_book.specs.Growth.{AreTold}
 use Rattle.esm_book.specs.State.{DurableState}
 use Rattle.esm_stream_core.specs.CoreView.{CoreView, lines_of}
 
--- The core has what the history is judged over, the history with its newest entry first, and what was decided and is not
--- yet added. Beside it stand the journal and the destination as they are and as they were at opening, and why the book is
--- down, where it is.
+-- The core has what the history is judged over, the history with its newest entry first, and what was decided and is not yet
+-- added. Beside it are the journal and the destination, as they are and as they were at opening, and why the book is down,
+-- if it is.
 abbrev pub BookState : Type 0 → Type 0 → Type 0
 BookState D T = DurableState CoreView D T
 
@@ -49,8 +49,8 @@ sent_of n es = map n.sends (lines_of es)
 
 -- what a crash leaves
 
--- Two disks, in whichever order, open to the payloads from before, and then to those of the first of these entries, or of
--- all of them; and the lines of these first entries were delivered.
+-- Two disks, in either order, open to the payloads from before and then to those of a prefix of these entries; and the lines
+-- of this prefix were delivered.
 pub record OpensToFirst {T : Type 0} (n : DestMeaning T) (s : Setting) (epoch : ℕ) (before : List (List ℕ)) (dest dest' : T) (es : List Entry) (one other : List ℕ) : Type 0 where
   pub front : List Entry
   pub rest : List Entry
@@ -58,7 +58,7 @@ pub record OpensToFirst {T : Type 0} (n : DestMeaning T) (s : Setting) (epoch : 
   pub opens : PairOpensTo (header_of 2) epoch (before ++ payloads_in s front) one other
   pub delivered : AreTold (n.lines dest) (n.lines dest') (sent_of n front)
 
--- whatever a crash left of both disks, each at any moment since the pair stood as before, opens so
+-- whatever a crash left of both disks, each at any moment since they were as before, opens in this way
 abbrev pub LeavesFirst : {D T : Type 0} → DiskMeaning D → DestMeaning T → Setting → PairState D → PairState D → T → T → List Entry → Type 0
 LeavesFirst m n s pair pair' dest dest' es =
     m.honest pair.used ≡ true → m.honest pair.spare ≡ true → (one other : List ℕ) →

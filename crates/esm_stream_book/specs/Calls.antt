@@ -27,7 +27,7 @@ pub record Added {D T : Type 0} (s : Setting) (old new : BookState D T) (es : Li
   pub found : new.found ≡ old.found
   pub found_dest : new.found_dest ≡ old.found_dest
 
--- All that a call was to add was added, and its lines delivered; the setting has all that came. Where it added nothing, no
+-- All that a call was to add was added, and its lines delivered; the setting has all that came. If it added nothing, no
 -- device was called.
 pub record AddedAll {D T : Type 0} (m : DiskMeaning D) (n : DestMeaning T) (s : Setting) (old new : BookState D T) (es : List Entry) : Type 0 where
   pub added : Added s old new es
@@ -40,8 +40,8 @@ pub record AddedAll {D T : Type 0} (m : DiskMeaning D) (n : DestMeaning T) (s : 
   pub kept : PairKeepsWhileUp m new.pair
   pub up : new.pair.down ≡ false
 
--- the entry that was being written when the device failed, whose payload may stand on the disk: the first of the rest,
--- where a disk failed
+-- the entry that was being written when the device failed, whose payload may be on the disk: the first of the rest, if a
+-- disk failed
 abbrev pub hand_of : Trouble → List Entry → List Entry
 hand_of Disk rest = take 1 rest
 hand_of Dest rest = []
@@ -53,8 +53,8 @@ WasWriting Disk s rest = 0 < length (payloads_in s (take 1 rest))
 WasWriting Dest s rest = 0 < length (lines_of (take 1 rest))
 WasWriting (Changed change) s rest = ⊥
 
--- A device failed before all of it was added: the rest is owed. The line of the entry that was being written was delivered
--- where the disk failed.
+-- A device failed before all of it was added: the rest is owed. If the disk failed, the line of the entry that was being
+-- written was delivered.
 pub record AddedSome {D T : Type 0} (m : DiskMeaning D) (n : DestMeaning T) (s : Setting) (old new : BookState D T) (es : List Entry) (trouble : Trouble) : Type 0 where
   pub front : List Entry
   pub rest : List Entry
@@ -86,7 +86,7 @@ abbrev pub RunsCall : ℕ → CoreView → CoreView → Next → Type 0
 RunsCall batcher before after (next.Call job) = (lane_of_batcher before.setting before.past batcher ≡ Some job.lane) × IsRunningJob after.past job
 RunsCall batcher before after _ = Unit {0}
 
--- nothing changed but that there may be memory for more
+-- nothing changed, except that there may be memory for more
 pub record IsSame {D T : Type 0} (n : DestMeaning T) (old new : BookState D T) : Type 0 where
   pub rest : new ≡ record old { pair = record old.pair { room = new.pair.room }; dest = new.dest }
   pub dest : IsSameDest n old.dest new.dest

@@ -35,7 +35,7 @@ entries_by v (call.Shut moment) = []
 entries_by v (call.Next batcher moment) = next_entries_now v batcher moment
 entries_by v (call.Done job reply moment) = ended_entries v job.lane reply (moment_for v.past moment)
 
--- it is answered so
+-- this is its answer
 abbrev pub IsAnswer : CoreView → StreamCall → StreamAnswer → Type 0
 IsAnswer v (call.Came items moment) answer.Taken = Unit {0}
 IsAnswer v (call.Next batcher moment) (answer.Next next) = IsNextOver v batcher (moment_for v.past moment) next

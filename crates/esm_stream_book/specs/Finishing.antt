@@ -1,4 +1,4 @@
--- Where a batcher of a stream's book has finished, and what is left for it. This product's own.
+-- When a batcher of a stream's book has finished, and what is left for it. This product's own.
 use Rattle.std.specs.Prelude.{◌≡◌, ◌≤◌, ℕ, true, List}
 use Rattle.esm_model.specs.declared.setup.Setup.{Setup}
 use Rattle.esm_model.specs.declared.setup.Told.{Told}

@@ -28,6 +28,6 @@ records_in_items [] = []
 records_in_items (Stream r ∷ items) = r ∷ records_in_items items
 records_in_items (Queue m ∷ items) = records_in_items items
 
--- the first of the list's records that differs from what was kept of it differs so
+-- the change is that of the first of the list's records that differs from what was kept of it
 abbrev pub DiffersTold : Setup → List Told → List Item → Change → Type 0
 DiffersTold setup history list change = first_change (setting_told setup history) (entries_told history) (records_in_items list) ≡ Some change

@@ -1,4 +1,4 @@
--- What is true of every stream's book, whoever made its calls. This product's own.
+-- What holds of every stream's book, whoever made its calls. This product's own.
 use Rattle.std.specs.Prelude.{◌≡◌, ◌++◌, ℕ, List, [], ◌∷◌, Option, Some, None, true, false, reverse}
 use Rattle.std.specs.List.{All}
 use Rattle.esm_io.specs.Meanings.{DiskMeaning, DestMeaning}
@@ -18,12 +18,12 @@ use Rattle.esm_stream_core.specs.declared.decisions.Opened.{Opened}
 use Rattle.esm_stream_core.specs.Told.{told_of, IsChange}
 use Rattle.esm_stream_book.specs.Books.{BookState, payloads_in, sent_of}
 
--- The setting has the records that the history tells, each `Came` stands with those that it covers, and the history is
--- legal over all lists of records that go on from them. Where the book is not down, nothing is called for over any of them.
--- The entry that was being written when a disk failed may follow the history, or a front of it after which calls and the
--- input ended alone, over all of them, and so may the one whose line was being delivered when the destination failed. Where a
--- disk failed exactly one entry was being written, which has a payload; and where the destination failed the line of exactly one
--- was being delivered.
+-- The setting has the records of the history, each `Came` has those that it covers beside it, and the history is legal over
+-- all lists of records that extend them. If the book is not down, nothing more is required over any of them. The entry that
+-- was being written when a disk failed may follow the history, or a prefix of it that only ends of calls and of the input
+-- follow, over all of them; so may the one whose line was being delivered when the destination failed. If a disk failed,
+-- exactly one entry was being written, and it has a payload; if the destination failed, the line of exactly one was being
+-- delivered.
 pub record IsSound {D T : Type 0} (b : BookState D T) : Type 0 where
   pub records : b.core.setting.streams ≡ streams_told (told_of b.core)
   pub of_stream : All IsOfStream (told_of b.core)
@@ -51,16 +51,16 @@ IsCause disk_failed dest_failed o (Some Disk) = disk_failed
 IsCause disk_failed dest_failed o (Some Dest) = dest_failed
 IsCause disk_failed dest_failed o (Some (Changed change)) = IsChange o change
 
--- the entries whose payloads a crash may leave: those of the history, and where a disk failed the one that was being written
+-- the entries whose payloads a crash may leave: those of the history, and if a disk failed the one that was being written
 abbrev pub entries_left : {D T : Type 0} → BookState D T → List Entry
 entries_left b = reverse b.core.past ++ in_hand b.trouble b.core.owed
 
--- and those whose lines it may leave: those, and where the destination failed the one whose line was being delivered
+-- the entries whose lines it may leave: those, and if the destination failed the one whose line was being delivered
 abbrev pub lines_left : {D T : Type 0} → BookState D T → List Entry
 lines_left b = entries_left b ++ in_delivery b.trouble b.core.owed
 
--- The journal has what was found and then the payloads of the history. It is the pair that was opened, and down exactly where
--- a disk failed.
+-- The journal has what was found and then the payloads of the history. It is the pair that was opened, and is down if and
+-- only if a disk failed.
 pub record HasJournal {D T : Type 0} (m : DiskMeaning D) (b : BookState D T) : Type 0 where
   pub payloads : b.pair.payloads ≡ b.found.payloads ++ payloads_in (full_setting b.core) (reverse b.core.past)
   pub down : b.pair.down ≡ is_disk b.trouble
@@ -70,10 +70,10 @@ pub record HasJournal {D T : Type 0} (m : DiskMeaning D) (b : BookState D T) : T
   pub spare : b.pair.spare ≡ b.found.spare
   pub honesty : m.honest b.pair.used ≡ m.honest b.found.used
 
--- The destination has what was found and then the lines of the history; where a disk failed, that of the entry that was
--- being written may follow. It has failed exactly where the trouble says so. Whatever a crash left of it since the opening is
--- read as the lines that were found, and then as the first of those; and what one leaves now as all of them, where it failed
--- perhaps with the line that was being delivered.
+-- The destination has what was found and then the lines of the history; if a disk failed, that of the entry that was being
+-- written follows, if it has one. The destination has failed if and only if the trouble says so. Whatever a crash left of it
+-- since the opening reads as the lines that were found and a prefix of those; what one leaves now reads as all of them and,
+-- if the destination failed, perhaps the line that was being delivered.
 pub record HasLines {D T : Type 0} (n : DestMeaning T) (b : BookState D T) : Type 0 where
   pub lines : Grows (n.lines b.found_dest) (n.lines b.dest) (sent_of n (entries_left b))
   pub failed : n.failed b.dest ≡ is_dest b.trouble

@@ -1,5 +1,5 @@
--- Moments that a clock gave: of the entries of a stream's history, and of those that were decided and are not yet added. This
--- product's own.
+-- Moments that a clock gave: of the entries of a stream's history, and of those that were decided and are not yet added.
+-- This product's own.
 use Rattle.std.specs.Prelude.{◌≡◌, ℕ, Bool, true, List, [], ◌∷◌, ⊤}
 use Rattle.esm_model.specs.declared.entry.Entry.{Entry}
 use Rattle.esm_model.specs.Entries.{moment_of}
@@ -16,8 +16,8 @@ abbrev pub AreTimed : (ℕ → Bool) → List Entry → Type 0
 AreTimed gave [] = ⊤
 AreTimed gave (e ∷ es) = IsTimed gave e × AreTimed gave es
 
--- So is that of each entry of the history, and of each that is owed: of the one in hand where a disk failed, and of the one whose
--- line was being delivered where the destination failed.
+-- So is that of each entry of the history, and of each that is owed: of the one in hand, if a disk failed, and of the one
+-- whose line was being delivered, if the destination failed.
 pub record IsTimedView (gave : ℕ → Bool) (v : CoreView) : Type 0 where
   pub past : AreTimed gave v.past
   pub owed : AreTimed gave v.owed
@@ -27,6 +27,6 @@ abbrev pub HaveMoment : ℕ → List Entry → Type 0
 HaveMoment m [] = ⊤
 HaveMoment m (e ∷ es) = (moment_of e ≡ m) × HaveMoment m es
 
--- the moment is one that the clock gave, or that of the last entry of this history where that is later
+-- the moment is one that the clock gave, or that of the last entry of this history if that is later
 abbrev pub IsGivenBehind : (ℕ → Bool) → List Entry → ℕ → Type 0
 IsGivenBehind gave before m = (t : ℕ) × (gave t ≡ true) × (m ≡ moment_for before t)

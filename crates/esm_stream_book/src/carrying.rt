@@ -28,11 +28,11 @@ pub(crate) enum Stop {
     DestFault,
     /// A record came with another sequence number than was kept of it; nothing of the call was taken.
     Changed(Change),
-    /// Want of memory; nothing has changed but room that was made.
+    /// An allocation failed; nothing has changed, except that room may be reserved.
     OutOfMemory,
 }
 
-/// What is true of the core, and of the devices where the book is not down. Does nothing.
+/// What holds of the core, and of the devices if the book is not down. Does nothing.
 pub(crate) fn keeps<D: Disk, T: Dest>(durable: &Durable<StreamCore, D, T>)
     ensures records { durable.now.core.setting.streams ≡ streams_told (told_of durable.now.core) }
     ensures rests { durable.now.core.owed ≡ [] → durable.now.core.coming ≡ [] }
@@ -89,7 +89,7 @@ pub(crate) fn carry<D: Disk, T: Dest>(
     }
 }
 
-/// Notes the end of a job's call, where the book is down: nothing that it calls for is added. Takes no memory.
+/// Notes the end of a job's call in a book that is down: nothing that it requires is added. Takes no memory.
 pub(crate) fn note_end<D: Disk, T: Dest>(
     durable: &mut Durable<StreamCore, D, T>,
     job: Job,
@@ -106,7 +106,7 @@ pub(crate) fn note_end<D: Disk, T: Dest>(
     keeps(durable);
 }
 
-/// Notes the end of the input, where the book is not down. Takes no memory.
+/// Notes the end of the input in a book that is not down. Takes no memory.
 pub(crate) fn note_shut<D: Disk, T: Dest>(durable: &mut Durable<StreamCore, D, T>, moment: u64)
     requires up { durable.old.trouble ≡ None }
     requires going { is_shut durable.old.core.past ≡ false }

@@ -1,11 +1,11 @@
-//! A stream's book moves between threads where its disks and its destination do.
+//! A stream's book is `Send` if its disks and its destination are.
 
 use crate::stream_book::Book;
 use esm_io::{Dest, Disk};
 
 fn crosses<T: Send>() {}
 
-/// A stream's book moves between threads where its disks and its destination do.
+/// `Book` is `Send` if its disks and its destination are.
 pub fn books_cross<D: Disk + Send, T: Dest + Send>() {
     crosses::<Book<D, T>>();
 }

@@ -1,4 +1,4 @@
-// A stream's book as threads hand it on.
+// A stream's book as threads pass it on.
 use crate::carrying::is_down;
 use crate::stream_book::Book;
 use esm_io::{Dest, Disk};

@@ -22,9 +22,9 @@ pub fn batchers_begin()
     ensures items { (n : ℕ) → items_told [] n ≡ [] }
 {}
 
-/// Where entries follow of which none is a batcher's, its calls are as before, with their event texts; it still rests
-/// where it did, and still runs the call that it ran. Where it has finished, nothing comes to be left for it. Calls that
-/// are spent stay spent, whoever's the entries are.
+/// If entries follow of which none is a batcher's, its calls are as before, with their event texts; if it rested it still
+/// does, it still runs the call that it ran, and if it had finished it still has. Calls that are spent stay spent, whoever
+/// adds the entries.
 pub fn batchers_last()
     ensures calls { (s : Setup) (sends : List ℕ → List ℕ) (h es : List Told) (k : ℕ) → OthersFollow author stream_may_follow s (k + 1) h es →
         calls_told s sends (h ++ es) k ≡ calls_told s sends h k }
@@ -40,15 +40,15 @@ pub fn batchers_last()
     calls_kept_over_more_records();
 }
 
-/// Where entries follow of which none is the reader's, the items that came stay as they are, and the input has ended where
-/// it had.
+/// If entries follow of which none is the reader's, the items that came stay as they are, and the input has ended if and
+/// only if it had.
 pub fn items_last()
     ensures shut { (s : Setup) (h es : List Told) → OthersFollow author stream_may_follow s 0 h es →
         is_shut (entries_told (h ++ es)) ≡ is_shut (entries_told h) }
     ensures items { (s : Setup) (h es : List Told) → OthersFollow author stream_may_follow s 0 h es → StayAsTheyAre (items_told h) (items_told (h ++ es)) }
 {}
 
-/// Where a batcher has finished, nothing is left for it.
+/// If a batcher has finished, nothing is left for it.
 pub fn finished_excludes()
     ensures { (s : Setup) (h : List Told) (k : ℕ) → HasFinished s h k → HasLeft s h k → ⊥ }
 {}

@@ -1,7 +1,7 @@
-//! The durable book of a stream: records come, batches are called, and each fate, state and failed try stands in the
-//! journal, each failure line at the destination before it. Each call is one legal step of the history, and a crash at any
-//! moment leaves the payloads of whole entries alone.
-//! What it decides is `esm_stream_core`; how it is written is `esm_book`. No clock and no thread.
+//! The durable book of a stream: records come, batches are called, and each fate, state and failed try is written to the
+//! journal, after its failure line, if it has one, was delivered to the destination. Each call is one legal step of the
+//! history, and a crash at any moment leaves only the payloads of whole entries.
+//! `esm_stream_core` makes the decisions, and `esm_book` writes them. No clock and no thread.
 #![tactic(auto)]
 
 mod carrying;

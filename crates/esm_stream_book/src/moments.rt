@@ -1,5 +1,5 @@
-// The moments of a stream's entries, of those too that a failing device kept from being added: each law is the contract of a
-// function that does nothing.
+// The moments of a stream's entries, also of those that a failing device kept from being added. Each law is the contract of
+// a function that does nothing.
 ghost use Rattle.std.specs.Prelude.{◌≡◌, ℕ, Bool, true, List, Option};
 ghost use Rattle.esm_io.specs.Meanings.{disk, destination};
 ghost use Rattle.esm_journal.specs.Pair.{PairState};
@@ -21,15 +21,15 @@ ghost use Rattle.esm_stream_book.specs.Opening.{IsOpened};
 
 use esm_io::{Dest, Disk};
 
-/// All that a call decides has one moment: that which is handed in, or the last entry's where that is later.
+/// All that a call decides has one moment: the one that is handed in, or the last entry's if that is later.
 pub fn entries_have_moment()
     ensures came { (v : CoreView) (items : List Record) (m : ℕ) → HaveMoment m (came_entries v items m) }
     ensures next { (v : CoreView) (batcher moment : ℕ) → HaveMoment (moment_for v.past moment) (next_entries_now v batcher moment) }
     ensures ended { (v : CoreView) (lane : LaneId) (reply : Reply) (m : ℕ) → HaveMoment m (ended_entries v lane reply m) }
 {}
 
-/// Where a clock gave the moments of a book's entries and of those that it owes, so it is after a call whose moment the clock
-/// gave: after one that was carried out, one in which a device failed, and one of which one entry was noted.
+/// If a clock gave the moments of a book's entries and of those that it owes, this still holds after a call whose moment the
+/// clock gave: one that was carried out, one in which a device failed, or one of which one entry was noted.
 pub fn moments_stay<D: Disk, T: Dest>()
     ensures all { (gave : ℕ → Bool) (moment : ℕ) (s : Setting) (es : List Entry) (old new : BookState D T) → gave moment ≡ true → IsTimedView gave old.core →
         HaveMoment (moment_for old.core.past moment) es → AddedAll (disk D.Disk) (destination T.Dest) s old new es → IsTimedView gave new.core }
@@ -46,8 +46,8 @@ pub fn opened_is_timed<D: Disk, T: Dest>()
         IsTimedView gave b.core }
 {}
 
-/// Then a clock gave the moment of the entry in hand, where a disk failed, and of the one whose line was being delivered, where
-/// the destination failed; each may follow a front of the history, and its moment is given behind that front.
+/// Then a clock gave the moment of the entry in hand, if a disk failed, and of the one whose line was being delivered, if
+/// the destination failed. Each may follow a prefix of the history, and its moment is one given after that prefix.
 pub fn hand_is_timed()
     ensures hand { (gave : ℕ → Bool) (v : CoreView) (trouble : Option Trouble) → IsTimedView gave v → AreTimed gave (in_hand trouble v.owed) }
     ensures tried { (gave : ℕ → Bool) (v : CoreView) (trouble : Option Trouble) → IsTimedView gave v → AreTimed gave (in_delivery trouble v.owed) }

@@ -1,4 +1,4 @@
-// What a journal's payloads say of a stream, and the filter of its mapping.
+// Reads what a journal's payloads say of a stream, and the filter of its mapping.
 ghost use Rattle.std.specs.Prelude.{◌≡◌, true, is_ok, IfOk, IfErr, OnOk, reverse};
 ghost use Rattle.esm_filter.specs.Criteria.{JudgesRecords};
 ghost use Rattle.esm_model.specs.Pattern.{read_patterns};

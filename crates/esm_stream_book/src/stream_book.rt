@@ -44,7 +44,7 @@ use std::marker::Model;
 use std::snapshot::Snapshot;
 
 /// What a stream's book is made of: its history, oldest entry first, its journal and its failure destination; and why it is
-/// down, where it is.
+/// down, if it is.
 #[derive(Drop)]
 pub struct Parts<D: Disk, T> {
     pub history: Vec<Entry>,
@@ -53,13 +53,13 @@ pub struct Parts<D: Disk, T> {
     pub dest: T,
 }
 
-/// The book of a stream's mapping: which records came, which are being called and what became of each, with each fate,
-/// state and failed try in a journal of two files, and each failure line at a destination (Lambda Developer Guide, event
-/// source mappings for Kinesis). After the first fault of a disk or of the destination, or the first record that came with
-/// another sequence number than was kept of it, it is down.
+/// The book of a stream's mapping: which records came, which are being called and what became of each, with each fate, state
+/// and failed try in a journal of two files, and each failure line at a destination (Lambda Developer Guide, event source
+/// mappings for Kinesis). After the first fault of a disk or of the destination, or the first record that came with another
+/// sequence number than was kept of it, it is down.
 ///
-/// Moments are in milliseconds since 1970; an entry has the moment that is handed in, or that of the last entry where that
-/// is later, and at most 9999-12-31T23:59:59.999Z. Places count a shard's records from 0.
+/// Moments are in milliseconds since 1970. An entry has the moment that is handed in, or that of the last entry if that is
+/// later, and at most 9999-12-31T23:59:59.999Z. Places count a shard's records from 0.
 #[derive(Drop)]
 pub struct Book<D: Disk, T: Dest> {
     pub(crate) durable: Durable<StreamCore, D, T>,
@@ -94,9 +94,9 @@ fn open_over<D: Disk>(
 }
 
 impl<D: Disk, T: Dest> Book<D, T> {
-    /// A book in which no record came, for so many calls in all, with the fates, tries, states and window tries that the
-    /// journal told of. `BadPayload` exactly where a payload is bad for a book, with the index of the first such one. The
-    /// journal and the destination are as before, and a refusal hands them back.
+    /// Opens a book in which no record came, for `calls` calls in all, with the fates, tries, states and window tries that
+    /// the journal has. Returns `BadPayload`, with the index of the first such payload, if one is bad for a book, and
+    /// `OutOfMemory` if an allocation failed. The journal and the destination are as before, and a refusal returns them.
     pub fn open(
         alloc: Global,
         config: Config,
@@ -123,10 +123,11 @@ impl<D: Disk, T: Dest> Book<D, T> {
         }
     }
 
-    /// Records come: one `Came` for each shard of the list, in the order of first appearance; then, for each of them with
-    /// records that fail the filter and have no found fate, their fate. A list with a record that stands in the stream with
-    /// another sequence number than was kept of it, with a fate or with tries, is refused whole, and the first such record
-    /// is told. After `DiskFault` the entries that were written before the fault stay.
+    /// Adds records that come: one `Came` for each shard of the list, in the order of first appearance; then, for each of
+    /// them with records that fail the filter and have no found fate, their fate. A list with a record that came with
+    /// another sequence number than was kept of it, with a fate or with tries, is refused whole: `StreamChanged` has the
+    /// first such record. After `DiskFault` the entries that were written before the fault stay. After either the book is
+    /// down. `Down` is returned if and only if an earlier call found trouble.
     pub fn came(&mut self, alloc: Global, items: Vec<Record>, moment: u64) -> Result<(), CameError>
         requires may { MayCome self.old.core items.items }
         // What is added, and what a crash leaves.
@@ -138,7 +139,7 @@ impl<D: Disk, T: Dest> Book<D, T> {
             (destination T.Dest)
             (setting_with self.old.core.setting (coming_lists self.old.core items.items)) self.old self.new
             (came_entries self.old.core items.items (moment_for self.old.core.past moment)) trouble.Disk }
-        // When each error comes, and what it leaves.
+        // When each error is returned, and what it leaves.
         ensures cause { IsErrOf result CameError.DiskFault → Rose (D.faults self.old.pair.used) (D.faults self.new.pair.used) }
         ensures changed { (change : Change) → IsErrOf result (CameError.StreamChanged change) →
             (self.old.trouble ≡ None) × Differs self.old.core items.items change × (self.new ≡ record self.old { trouble = Some (trouble.Changed change) }) }
@@ -159,8 +160,8 @@ impl<D: Disk, T: Dest> Book<D, T> {
         }
     }
 
-    /// The input ended. `Down` exactly where an earlier call found trouble, and no other error; the book is then as before.
-    /// Takes no memory.
+    /// Adds the end of the input. Returns `Down` if and only if an earlier call found trouble, and no other error; the book
+    /// is then as before. Takes no memory.
     pub fn shut(&mut self, moment: u64) -> Result<(), BookError>
         requires going { is_shut self.old.core.past ≡ false }
         ensures added { OnOk result (AddedOne self.old self.new (entry.Shut (moment_for self.old.core.past moment))) }
@@ -175,9 +176,10 @@ impl<D: Disk, T: Dest> Book<D, T> {
         Ok(())
     }
 
-    /// What the batcher does next, by the first rule that holds; a call begins, and records that expire get their fate,
-    /// their failure line delivered first where a destination is set (Lambda Developer Guide, event source mappings for
-    /// Kinesis: batching behavior, tumbling windows, error handling). The batcher's lane is not running.
+    /// Returns what the batcher does next, by the first rule that holds, and adds it: a call begins, or records that expire
+    /// get their fate, after their failure line was delivered if a destination is set (Lambda Developer Guide, event source
+    /// mappings for Kinesis: batching behavior, tumbling windows, error handling). No call of the batcher's lane may be
+    /// running.
     pub fn next(&mut self, alloc: Global, batcher: u32, moment: u64) -> Result<Next, BookError>
         requires rests { IsResting self.old.core batcher }
         // What is answered and added, and what a crash leaves.
@@ -192,7 +194,7 @@ impl<D: Disk, T: Dest> Book<D, T> {
             (destination T.Dest)
             self.old.core.setting self.old self.new (next_entries_now self.old.core batcher moment) trouble.Dest }
         ensures runs { IfOk result (RunsCall batcher self.old.core self.new.core) }
-        // When each error comes, and what it leaves.
+        // When each error is returned, and what it leaves.
         ensures disk_cause { IsErrOf result BookError.DiskFault → Rose (D.faults self.old.pair.used) (D.faults self.new.pair.used) }
         ensures dest_cause { IsErrOf result BookError.DestFault → Rose (T.faults self.old.dest) (T.faults self.new.dest) }
         ensures down { IsErrOf result BookError.Down ↔ IsSome self.old.trouble }
@@ -212,9 +214,9 @@ impl<D: Disk, T: Dest> Book<D, T> {
         }
     }
 
-    /// The job's call came to this reply: its `Ended`, and then the fates, tries, states and closed windows that the reply
-    /// calls for; answers how many records get a fate (Lambda Developer Guide, error handling for Kinesis). On a book that
-    /// is down the `Ended` alone is added. The job is its lane's running one.
+    /// Adds the end of the job's call with this reply: its `Ended`, and then the fates, tries, states and closed windows
+    /// that the reply requires. Returns how many records get a fate (Lambda Developer Guide, error handling for Kinesis). On
+    /// a book that is down only the `Ended` is added, and `Down` is returned. The job is its lane's running one.
     pub fn done(
         &mut self,
         alloc: Global,
@@ -235,7 +237,7 @@ impl<D: Disk, T: Dest> Book<D, T> {
             (destination T.Dest)
             self.old.core.setting self.old self.new (ended_entries self.old.core job.lane reply (moment_for self.old.core.past moment)) trouble.Dest }
         ensures noted { IsErrOf result BookError.Down → AddedOne self.old self.new (entry.Ended job.lane reply (moment_for self.old.core.past moment)) }
-        // When each error comes, and what it leaves.
+        // When each error is returned, and what it leaves.
         ensures disk_cause { IsErrOf result BookError.DiskFault → Rose (D.faults self.old.pair.used) (D.faults self.new.pair.used) }
         ensures dest_cause { IsErrOf result BookError.DestFault → Rose (T.faults self.old.dest) (T.faults self.new.dest) }
         ensures down { IsErrOf result BookError.Down ↔ IsSome self.old.trouble }
@@ -266,7 +268,7 @@ impl<D: Disk, T: Dest> Book<D, T> {
         self.durable.core().is_shut()
     }
 
-    /// Whether all calls allowed began, also where the book is down. Takes no memory.
+    /// Whether all calls allowed began, also if the book is down. Takes no memory.
     pub fn is_spent(&self) -> bool
         ensures spent { result ≡ true → self.now.core.setting.calls ≤ calls_begun self.now.core.past }
         ensures going { result ≡ false → calls_begun self.now.core.past < self.now.core.setting.calls }
@@ -274,8 +276,8 @@ impl<D: Disk, T: Dest> Book<D, T> {
         self.durable.core().is_spent()
     }
 
-    /// Whether nothing is left for the batchers below the number, where the book is not down: no record of their lanes is
-    /// open, and no window of their shards is outstanding. `None` where nothing is decided any more. Takes no memory.
+    /// Whether nothing is left for the batchers below the number, of a book that is not down: no record of their lanes is
+    /// open, and no window of their shards is outstanding. `None` if nothing is decided any more. Takes no memory.
     pub fn is_over(&self, batchers: u32) -> Option<bool>
         requires up { self.now.trouble ≡ None }
         ensures over { result ≡ Some true → (k : ℕ) → k < batchers → IsQuiet self.now.core.setting self.now.core.past k }
@@ -285,24 +287,23 @@ impl<D: Disk, T: Dest> Book<D, T> {
         self.durable.core().is_over(batchers)
     }
 
-    /// How many of the shard's first records all have a fate. `None` exactly where the shard has not come. Takes no
-    /// memory.
+    /// How many of the shard's first records all have a fate; `None` if and only if the shard has not come. Takes no memory.
     pub fn checkpoint(&self, shard: u64) -> Option<u32>
         ensures { result ≡ checkpoint_of self.now.core.setting self.now.core.past shard }
     {
         self.durable.core().checkpoint(shard)
     }
 
-    /// How many records have a fate and stand past the checkpoint. `None` exactly where the shard has not come. Takes no
-    /// memory.
+    /// How many of the shard's records past the checkpoint have a fate; `None` if and only if the shard has not come. Takes
+    /// no memory.
     pub fn spread(&self, shard: u64) -> Option<u32>
         ensures { result ≡ spread_of self.now.core.setting self.now.core.past shard }
     {
         self.durable.core().spread(shard)
     }
 
-    /// The first fault or change that a call answered; `None` exactly where none did. Its clauses say what the type keeps
-    /// of any book, whoever made its calls. Takes no memory.
+    /// The first fault or change that a call returned; `None` if none did. Its clauses say what holds of any book, whoever
+    /// made its calls. Takes no memory.
     pub fn trouble(&self) -> Option<&Trouble>
         ensures value { option_copied result ≡ self.now.trouble }
         ensures cause { IsCause (Rose (D.faults self.now.found.used) (D.faults self.now.pair.used))
@@ -326,8 +327,8 @@ impl<D: Disk, T: Dest> Book<D, T> {
         self.durable.trouble()
     }
 
-    /// What the disks leave since a moment at which nobody had opened them yet, where each had one image then, as after a
-    /// crash or a sync. Does nothing.
+    /// What a crash leaves of the disks since a moment before they were opened, if each had one image then, as after a crash
+    /// or a sync. `journal` and `spare` are the disks at that moment. Does nothing.
     pub fn since_before(&self, journal: &Snapshot<D>, spare: &Snapshot<D>)
         requires first { IsOnlyRead (disk D.Disk) journal.now.value (first_disk self.now.found) }
         requires second { IsOnlyRead (disk D.Disk) spare.now.value (second_disk self.now.found) }
@@ -341,7 +342,7 @@ impl<D: Disk, T: Dest> Book<D, T> {
         self.durable.since_before(journal, spare);
     }
 
-    /// The history, the first fault or change that a call answered, the journal and the destination, as the calls left them.
+    /// The history, the first fault or change that a call returned, the journal and the destination, as the calls left them.
     /// Takes no memory.
     pub fn into_parts(self) -> Parts<D, T>
         ensures history { result.history.items ≡ reverse self.core.past }

@@ -24,7 +24,7 @@ use Rattle.esm_stream_core.specs.declared.owed.Act.{Act}
 use Rattle.esm_stream_core.specs.declared.owed.Act.TheVariants as act
 use Rattle.esm_stream_core.specs.declared.owed.Owed.{Owed}
 
--- as it stands in the history
+-- the entry in the history
 abbrev pub act_entry : Act → Entry
 act_entry (act.Came shard first count moment) = entry.Came shard first count moment
 act_entry (act.Began lane places closing moment) = entry.Began lane places closing moment
@@ -47,7 +47,7 @@ part_of x = record { shard = x.shard; records = x.arriving.records.items }
 abbrev pub parts_of : List Coming → List Stream
 parts_of xs = map part_of xs
 
--- what is written of it
+-- what is written of it: its payload and its line, both short
 pub record IsWritten (s : Setting) (o : Owed) : Type 0 where
   pub payload : entry_payload s (owed_entry o) ≡ o.payload
   pub short : IfSome o.payload (λ (bytes : List ℕ). length bytes ≤ MAX_PAYLOAD)
@@ -61,7 +61,7 @@ AreWritten s (o ∷ owed) = IsWritten s o × AreWritten s owed
 abbrev pub HasShortPayload : Owed → Type 0
 HasShortPayload o = IfSome o.payload (λ (bytes : List ℕ). length bytes ≤ MAX_PAYLOAD)
 
--- the bytes say it
+-- the bytes are the payload that says this
 abbrev pub IsPayloadOf : Said → Vec ℕ Global → Type 0
 IsPayloadOf said out = out.items ≡ payload_of said
 
@@ -71,7 +71,7 @@ payloads_in owed = filter_map (λ (o : Owed). o.payload) owed
 
 -- what may be written of entries that are to be owed
 
--- its payload and its line, where it has them, may be said and are short
+-- its payload and its line, if it has them, may be said and are short
 pub record IsWritable (s : Setting) (e : Entry) : Type 0 where
   pub said : IfSome (entry_said s e) IsSaid
   pub short : IfSome (entry_said s e) (λ (said : Said). length (payload_of said) ≤ MAX_PAYLOAD)
@@ -84,18 +84,18 @@ AreWritable s (e ∷ es) = IsWritable s e × AreWritable s es
 
 -- the records that are named
 
--- none that is named in what is written of the entry has a fate
+-- no record that the entry's payload names has a fate
 abbrev pub NamesOpen : Setting → List Entry → Entry → Type 0
 NamesOpen s h (entry.Gave by shard places fate line state moment) = AreOpen s h shard places
 NamesOpen s h (entry.Tried lane places closing tries moment) = AreOpen s h lane.shard places
 NamesOpen s h _ = ⊤
 
--- nor in what is written of any of them
+-- and none that any of their payloads names
 abbrev pub AllNameOpen : Setting → List Entry → List Entry → Type 0
 AllNameOpen s h [] = ⊤
 AllNameOpen s h (e ∷ es) = NamesOpen s h e × AllNameOpen s h es
 
--- the entry may follow the history, in which places have four bytes
+-- the entry may follow the history, in which places fit four bytes
 pub record IsNext (s : Setting) (h : List Entry) (e : Entry) : Type 0 where
   pub legal : Legal s (e ∷ h)
   pub before : AreCountedInFourBytes h
@@ -107,7 +107,7 @@ abbrev pub AreNext : Setting → List Entry → List Entry → Type 0
 AreNext s h [] = ⊤
 AreNext s h (e ∷ es) = IsNext s h e × AreNext s (e ∷ h) es
 
--- what the end of a call calls for, as an act of its lane
+-- what the end of a call requires, as an act of its lane
 abbrev pub due_act : LaneId → ℕ → Due → Act
 due_act lane m (due.Gave places fate line state) = act.Gave (Some lane) lane.shard places fate line state state m
 due_act lane m (due.Tried places closing tries) = act.Tried lane places closing tries m

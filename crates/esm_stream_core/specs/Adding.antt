@@ -17,7 +17,7 @@ use Rattle.esm_stream_core.specs.declared.owed.Owed.{Owed}
 use Rattle.esm_stream_core.specs.CoreView.{setting_after}
 use Rattle.esm_stream_core.specs.Acts.{act_entry, parts_of}
 
--- the places in the history that it needs: its own, and that of the end of a call that begins
+-- the entries in the history that need room: its own, and that of the end of a call that begins
 abbrev pub cost_of : Act → ℕ
 cost_of (act.Began lane places closing moment) = 2
 cost_of _ = 1
@@ -40,7 +40,7 @@ abbrev pub ComesBy : Ledger → Coming → Act → Type 0
 ComesBy c x (act.Came shard first count moment) = IsArriving c x shard first count
 ComesBy c x _ = ⊥
 
--- any other entry: the ruling of an end and the memory for it, the memory for a state, or a lane that there is
+-- any other entry: the ruling of an end and the memory for it, the memory for a state, or a lane that exists
 abbrev pub IsReadyAlone : Ledger → Act → Type 0
 IsReadyAlone c (act.Came shard first count moment) = ⊥
 IsReadyAlone c (act.Began lane places closing moment) = HasSplits c lane
@@ -54,7 +54,7 @@ abbrev pub IsReady : Ledger → List Coming → Act → Type 0
 IsReady c [] a = IsReadyAlone c a
 IsReady c (x ∷ xs) a = ComesBy c x a
 
--- what stays prepared over it
+-- what stays prepared after it
 abbrev pub StaysAfter : Ledger → Ledger → Act → Type 0
 StaysAfter c d (act.Ended lane reply verdict moment) = (n w : ℕ) → HasState c n w → HasState d n w
 StaysAfter c d _ = ⊤
@@ -100,7 +100,7 @@ pub record IsShut (c d : Ledger) (m : ℕ) : Type 0 where
 
 -- entries that are noted
 
--- the history alone went on by an entry
+-- an entry was appended to the history alone
 pub record IsPushed (c d : Ledger) (e : Entry) : Type 0 where
   pub past : past_of d ≡ e ∷ past_of c
   pub shards : d.shards ≡ c.shards

@@ -40,7 +40,7 @@ coming_lists v items = streams_of (parts_of v.setting v.past items)
 abbrev pub came_entries : CoreView → List Record → ℕ → List Entry
 came_entries v items m = arrival_entries v.setting v.past items m
 
--- the first record of the list that differs from what was kept of it differs so
+-- the change is that of the first record of the list that differs from what was kept of it
 abbrev pub Differs : CoreView → List Record → Change → Type 0
 Differs v items change = first_change v.setting v.past items ≡ Some change
 
@@ -54,7 +54,7 @@ NoneDiffers v items = first_change v.setting v.past items ≡ None
 abbrev pub IsResting : CoreView → ℕ → Type 0
 IsResting v batcher = (lane : LaneId) → lane_of_batcher v.setting v.past batcher ≡ Some lane → is_running v.past lane ≡ false
 
--- the answer at the moment, over all lists of records that go on from those that came
+-- the answer at the moment, over all lists of records that extend those that came
 abbrev pub IsNextOver : CoreView → ℕ → ℕ → Next → Type 0
 IsNextOver v batcher m next = (streams : List Stream) → Extends v.setting.streams streams → next ≡ next_for (over v.setting streams) v.past batcher m
 
@@ -69,7 +69,7 @@ pub record IsRunningJob (h : List Entry) (job : Job) : Type 0 where
   pub runs : is_running h job.lane ≡ true
   pub places : job.places ≡ batch_of (last_call h job.lane)
 
--- the end, and then what it calls for
+-- the end, and then what it requires
 abbrev pub ended_entries : CoreView → LaneId → Reply → ℕ → List Entry
 ended_entries v lane reply m = Ended lane reply m ∷ owed v.setting (Ended lane reply m ∷ v.past) lane
 
@@ -82,6 +82,6 @@ abbrev pub given_in : List Entry → ℕ
 given_in [] = 0
 given_in (e ∷ es) = given_by e + given_in es
 
--- and by the end
+-- how many places get one by what the end requires
 abbrev pub given_by_end : CoreView → LaneId → Reply → ℕ → ℕ
 given_by_end v lane reply m = given_in (owed v.setting (Ended lane reply m ∷ v.past) lane)

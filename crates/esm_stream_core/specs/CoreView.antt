@@ -1,5 +1,5 @@
--- What is seen of a core, a stream's history with entries that are decided and not yet added, and what becomes of it. This
--- product's own.
+-- What contracts see of a core: a stream's history with entries that are decided and not yet added, and what calls make of
+-- it. This product's own.
 use Rattle.std.specs.Prelude.{◌≡◌, ℕ, Bool, true, false, List, [], ◌∷◌, ◌++◌, reverse, take, drop}
 use Rattle.std.specs.List.{filter_map}
 use Rattle.esm_model.specs.declared.entry.Entry.{Entry}
@@ -14,9 +14,9 @@ use Rattle.esm_stream_core.specs.declared.standing.Standing.{Standing}
 use Rattle.esm_stream_core.specs.declared.standing.Standing.TheVariants.{Whole, Left}
 use Rattle.esm_stream_core.specs.Standing.{standing_paid, standing_forgotten, standing_shut}
 
--- The setting has the records that came, and the history its newest entry first. For each `Came` that is owed the records
--- of a shard are coming, in the order of these entries, which stand before all others that are owed; the owed entries stand
--- oldest first.
+-- The setting has the records that came; the newest entry of the history is first, and the oldest of the owed ones. For each
+-- `Came` that is owed the records of a shard are coming, in the order of these entries, which come before all others that
+-- are owed.
 pub record CoreView : Type 0 where
   pub setting : Setting
   pub past : List Entry
@@ -24,11 +24,11 @@ pub record CoreView : Type 0 where
   pub owed : List Entry
   pub standing : Standing
 
--- no record came
+-- a new core: no record came
 abbrev pub new_view : Setting → CoreView
 new_view s = record { setting = s; past = []; coming = []; owed = []; standing = Whole }
 
--- the lists of records with those that are coming behind them
+-- the lists of records, with those that are coming appended
 abbrev pub with_coming : List Stream → List Stream → List Stream
 with_coming streams [] = streams
 with_coming streams (p ∷ parts) = with_coming (with_list streams p.shard p.records) parts
@@ -44,16 +44,16 @@ full_setting v = setting_with v.setting v.coming
 abbrev pub ahead : CoreView → List Entry
 ahead v = reverse v.owed ++ v.past
 
--- the history with all that is owed is legal over all lists of records that go on from those that came or are coming
+-- the history with all that is owed is legal over all lists of records that extend those that came or are coming
 abbrev pub LegalAhead : CoreView → Type 0
 LegalAhead v = LegalOver (full_setting v) (ahead v)
 
--- and over all of them nothing is called for that is not owed
+-- and over all of them nothing is required that is not owed
 abbrev pub SettledAhead : CoreView → Type 0
 SettledAhead v = SettledOver (full_setting v) (ahead v)
 
--- the entry may follow the history, or a front of it after which calls and the input ended alone, over all lists of records
--- that go on
+-- the entry may follow the history, or a prefix of it that only ends of calls and of the input follow, over all lists of
+-- records that extend the setting's own
 abbrev pub MayFollowFront : Setting → List Entry → Entry → Type 0
 MayFollowFront s h e = FollowsFront (λ before x. LegalOver s (x ∷ before)) h e
 
@@ -70,7 +70,7 @@ abbrev pub setting_after : Setting → List Stream → Setting
 setting_after s [] = s
 setting_after s (p ∷ parts) = grown s p.shard p.records
 
--- what becomes of it
+-- what calls make of it
 
 abbrev pub is_none_left : List Entry → Bool
 is_none_left [] = true
@@ -98,11 +98,11 @@ paid v = record {
 abbrev pub forgotten : CoreView → CoreView
 forgotten v = record v { coming = []; owed = []; standing = standing_forgotten v.standing }
 
--- one more entry is added, and what it calls for is not
+-- one more entry is added, and what it requires is not
 abbrev pub noted : CoreView → Entry → CoreView
 noted v e = record v { past = e ∷ v.past; standing = Left }
 
--- the end of the input is added, which calls for nothing; what is owed then can be added no more
+-- the end of the input is added, which requires nothing; what is owed then is no longer added
 abbrev pub noted_shut : CoreView → Entry → CoreView
 noted_shut v e = record v { past = e ∷ v.past; standing = standing_shut v.standing (is_none_left v.owed) }
 

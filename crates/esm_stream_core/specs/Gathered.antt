@@ -22,11 +22,11 @@ use Rattle.esm_stream_core.specs.declared.arriving.Gathered.{Gathered}
 use Rattle.esm_stream_core.specs.Calls.{stream_of, streams_of}
 use Rattle.esm_stream_core.specs.Acts.{part_of, parts_of}
 
--- the place is one of so many from `first` on
+-- the place is one of `count` from `first` on
 abbrev pub IsFrom : ℕ → ℕ → ℕ → Type 0
 IsFrom first count i = (first ≤ i) × (i < first + count)
 
--- the sequence numbers of the records at the places; the first record stands at the place `first`
+-- the sequence numbers of the records at the places; the first of the records is at the place `first`
 abbrev pub names_in : ℕ → List Record → List ℕ → List (List ℕ)
 names_in first records places = map (λ (r : Record). r.seq) (filter_map (λ (i : ℕ). slice_get records (i - first)) places)
 
@@ -34,15 +34,15 @@ names_in first records places = map (λ (r : Record). r.seq) (filter_map (λ (i 
 abbrev pub part_said : ℕ → Part → Said
 part_said m p = Fates p.shard Filtered m None p.refused (names_in p.first p.records p.refused)
 
--- its records come
+-- the `Came` of the part
 abbrev pub came_owed : ℕ → Part → Owed
 came_owed m p = record { act = act.Came p.shard p.first (length p.records) m; payload = None }
 
--- its refused places are filtered
+-- the entry by which its refused places are filtered
 abbrev pub filtered_owed : ℕ → Part → Owed
 filtered_owed m p = record { act = act.Gave None p.shard p.refused Filtered None None None m; payload = Some (payload_of (part_said m p)) }
 
--- where there are any
+-- if it has any
 abbrev pub filtered_if_any : ℕ → Part → List ℕ → List Owed
 filtered_if_any m p [] = []
 filtered_if_any m p (i ∷ places) = filtered_owed m p ∷ []
@@ -73,7 +73,7 @@ pub record CanTake (s : Setting) (h : List Entry) (m : ℕ) (p : Part) : Type 0 
   pub refused : p.refused ≡ refused_from s p.shard p.first p.records
   pub said : 1 ≤ length p.refused → IsSaid (part_said m p)
 
--- each finds its memory
+-- there is memory for each
 abbrev pub AreComing : Ledger → List Coming → Type 0
 AreComing c [] = ⊤
 AreComing c (x ∷ xs) = IsComing c x × AreComing c xs

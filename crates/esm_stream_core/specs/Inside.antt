@@ -1,4 +1,4 @@
--- The view of a core, and what is true of each. Only this crate's proofs cite this.
+-- The view of a core, and what holds of each. Only this crate's proofs cite this.
 use Rattle.std.specs.Prelude.{◌≡◌, ℕ, List, [], ◌∷◌, length, map, reverse, ⊤}
 use Rattle.esm_model.specs.declared.entry.Entry.{Entry}
 use Rattle.esm_model.specs.declared.entry.Entry.TheVariants.{Came}
@@ -17,7 +17,7 @@ view_of c = record { setting = setting_of c.ledger; past = past_of c.ledger; com
 
 -- the records that came
 
--- where the entry is a `Came`, its records are the next of their shard
+-- if the entry is a `Came`, its records are the next of their shard
 abbrev pub GoesOn : List Entry → Entry → Type 0
 GoesOn h (Came shard first count moment) = first ≡ came_count h shard
 GoesOn h _ = ⊤
@@ -61,7 +61,7 @@ pub record IsAccounted (q : Criteria) (v : CoreView) : Type 0 where
   pub told : AreTold v.setting v.past
   pub brought : BringAll v.past v.coming v.owed
 
--- and the ledger keeps what the history says, and can add what is owed
+-- the ledger keeps what the history says, and can add what is owed; and all is accounted for
 pub record IsCore (c : Inside) : Type 0 where
   pub kept : IsKept c.ledger (reverse c.coming.items) (reverse c.owed.items) c.standing
   pub seen : IsAccounted c.criteria (view_of c)

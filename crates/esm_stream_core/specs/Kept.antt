@@ -38,19 +38,19 @@ running_lanes (e ∷ h) = lanes_after (running_lanes h) e
 abbrev pub ends_of : List Entry → ℕ
 ends_of h = length (running_lanes h) + (if is_shut h then 0 else 1)
 
--- they have their places in the history
+-- there is room for them in the history
 pub record HasPlaces (c : Ledger) : Type 0 where
   pub room : vec_len c.history + ends_of (past_of c) ≤ vec_capacity c.history
   pub short : vec_len c.history + ends_of (past_of c) < MAX_ENTRIES
 
 -- how far more is decided
 
--- the entries may be added one after another, each with the part that comes with it, and then nothing is called for
+-- the entries may be added one after another, each with the part that comes with it, and then nothing more is required
 abbrev pub MayAdd : Setting → List Entry → List Stream → List Entry → Type 0
 MayAdd s h parts [] = SettledOver s h
 MayAdd s h parts (e ∷ es) = LegalOver (setting_after s parts) (e ∷ h) × MayAdd (setting_after s parts) (e ∷ h) (drop 1 parts) es
 
--- the ledger keeps what the history says, and can add what is owed; then nothing is called for
+-- the ledger keeps what the history says, and can add what is owed; then nothing more is required
 pub record Stands (c : Ledger) (xs : List Coming) (owed : List Owed) : Type 0 where
   pub keeps : Keeps c
   pub settles : MayAdd (setting_of c) (past_of c) (parts_of xs) (entries_of owed)
@@ -74,7 +74,7 @@ StandsSo c xs owed Whole = Stands c xs owed × SettledOver (setting_of c) (past_
 StandsSo c xs owed Paying = Stands c xs owed
 StandsSo c xs owed Left = IsLeft c × FirstFollows (setting_with (setting_of c) (parts_of xs)) (past_of c) (entries_of owed)
 
--- all that is kept; what is coming and what is owed stand oldest first
+-- all that is kept; what is coming and what is owed is listed oldest first
 pub record IsKept (c : Ledger) (xs : List Coming) (owed : List Owed) (standing : Standing) : Type 0 where
   pub last : c.last ≡ last_moment (past_of c)
   pub in_time : c.last ≤ MAX_MOMENT
@@ -85,7 +85,7 @@ pub record IsKept (c : Ledger) (xs : List Coming) (owed : List Owed) (standing :
 
 -- what a decision leaves
 
--- memory was taken, and no more
+-- only memory was taken
 pub record IsSame (c d : Ledger) : Type 0 where
   pub keeps : Keeps d
   pub past : past_of d ≡ past_of c
@@ -103,7 +103,7 @@ pub record Decides (c d : Ledger) (xs : List Coming) (owed : List Owed) : Type 0
 
 -- what is decided by
 
--- the ledger keeps the setting and the history, nothing is called for, and nothing was left
+-- the ledger keeps the setting and the history, nothing more is required, and nothing was left
 pub record IsLedgerOf (v : CoreView) (c : Ledger) : Type 0 where
   pub whole : v.standing ≡ Whole
   pub keeps : Keeps c

@@ -1,5 +1,5 @@
--- Whether something is left for a batcher of a stream. Source: the Lambda Developer Guide, event source mappings for Kinesis;
--- where tumbling windows are configured, a shard has one lane.
+-- Whether something is left for a batcher of a stream. Source: the Lambda Developer Guide, event source mappings for
+-- Kinesis; if tumbling windows are configured, a shard has one lane.
 use Rattle.std.specs.Prelude.{◌≡◌, ◌⊎◌, ◌≤◌, ℕ, true, false, List, [], length, Some}
 use Rattle.esm_model.specs.declared.lane.LaneId.{LaneId}
 use Rattle.esm_model.specs.declared.entry.Entry.{Entry}
@@ -13,7 +13,7 @@ pub record IsQuietLane (s : Setting) (h : List Entry) (lane : LaneId) : Type 0 w
   pub none_open : open_places s h lane ≡ []
   pub none_outstanding : s.config.factor ≡ 1 → (w : ℕ) → is_outstanding s h lane.shard w ≡ false
 
--- and so of the batcher's lane, where it has one
+-- so it is with the batcher's lane, if it has one
 abbrev pub IsQuiet : Setting → List Entry → ℕ → Type 0
 IsQuiet s h k = (lane : LaneId) → lane_of_batcher s h k ≡ Some lane → IsQuietLane s h lane
 

@@ -3,7 +3,7 @@ use Rattle.std.specs.Prelude.{Bool, true, false}
 use Rattle.esm_stream_core.specs.declared.standing.Standing.{Standing}
 use Rattle.esm_stream_core.specs.declared.standing.Standing.TheVariants.{Whole, Paying, Left}
 
--- an owed entry was added, and perhaps more are owed
+-- an owed entry was added, and more are owed or not
 abbrev pub standing_paid : Standing → Bool → Standing
 standing_paid Left more = Left
 standing_paid Whole true = Paying
@@ -11,13 +11,13 @@ standing_paid Whole false = Whole
 standing_paid Paying true = Paying
 standing_paid Paying false = Whole
 
--- what was owed is given up
+-- what was owed is discarded
 abbrev pub standing_forgotten : Standing → Standing
 standing_forgotten Whole = Whole
 standing_forgotten Paying = Left
 standing_forgotten Left = Left
 
--- the input ended, where nothing was owed, or over what was
+-- the input ended, when nothing was owed or when something was
 abbrev pub standing_shut : Standing → Bool → Standing
 standing_shut Whole true = Whole
 standing_shut Whole false = Left

@@ -1,4 +1,4 @@
--- A core's entries as a book over devices tells them, and what its calls decide. This product's own.
+-- A core's entries as a book over devices shows them, and what its calls decide. This product's own.
 use Rattle.std.specs.Prelude.{◌≡◌, ℕ, ◌≤◌, List, [], ◌∷◌, length, map, take, drop, reverse, Some, true, false}
 use Rattle.std.specs.List.{All}
 use Rattle.esm_model.specs.declared.limits.TheConstants.{MAX_BATCH}
@@ -32,7 +32,7 @@ abbrev pub covered : Setting → Entry → List Record
 covered s (Came shard first count moment) = take count (drop first (records_of s shard))
 covered s _ = []
 
--- with what is written of it
+-- the entry with these, its payload and its line
 abbrev pub stream_entry : Setting → Entry → StreamEntry
 stream_entry s e = record { told = record { entry = e; records = covered s e; messages = [] }; payload = entry_payload s e; line = entry_line e }
 
@@ -45,11 +45,11 @@ history_of v = stream_entries (full_setting v) v.past
 abbrev pub owed_of : CoreView → List StreamEntry
 owed_of v = stream_entries (full_setting v) v.owed
 
--- as threads hand them on
+-- as threads pass them
 abbrev pub told_entries : Setting → List Entry → List Told
 told_entries s es = map (λ (x : StreamEntry). x.told) (stream_entries s es)
 
--- the whole history so, its oldest entry first
+-- the whole history as threads pass it, its oldest entry first
 abbrev pub told_of : CoreView → List Told
 told_of v = told_entries (full_setting v) (reverse v.past)
 
@@ -111,7 +111,7 @@ abbrev pub Refuses : CoreView → StreamCall → Change → Type 0
 Refuses v (call.Came items moment) change = Differs v items.items change
 Refuses v _ change = ⊥
 
--- a setting that was opened so, where no record came
+-- the setting at opening: no record came
 abbrev pub setting_opened : Opened → Setting
 setting_opened o = record {
   config = o.config;

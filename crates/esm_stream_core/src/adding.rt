@@ -1,4 +1,4 @@
-//! Adding an owed entry to a ledger, or one that is noted to its history alone.
+//! Adds an owed entry to a ledger, or a noted one to its history alone.
 ghost use Rattle.std.specs.Prelude.{◌≡◌, ◌<◌, [], ◌∷◌, true, false, reverse, drop, vec_len, vec_capacity};
 ghost use Rattle.esm_model.specs.Entries.{moment_of as entry_moment, is_shut_entry};
 ghost use Rattle.esm_model.specs.declared.entry.Entry.{Entry};
@@ -9,7 +9,7 @@ use esm_ledger::{Coming, Ledger};
 use esm_model::Entry;
 use std::alloc::Global;
 
-/// The ledger takes the `Came`, for which all is prepared, and with it the records that come.
+/// Adds a `Came`, for which all is prepared, with the records that come.
 fn add_coming(ledger: &mut Ledger, alloc: Global, coming: Coming, act: Act)
     requires { CanAdd ledger.old (coming ∷ []) act }
     ensures { IsAdded ledger.old ledger.new (coming ∷ []) act }
@@ -25,7 +25,7 @@ fn add_coming(ledger: &mut Ledger, alloc: Global, coming: Coming, act: Act)
     }
 }
 
-/// The ledger takes the entry, for which all is prepared.
+/// Adds any other entry, for which all is prepared.
 fn add(ledger: &mut Ledger, alloc: Global, act: Act)
     requires { CanAdd ledger.old [] act }
     ensures { IsAdded ledger.old ledger.new [] act }
@@ -80,7 +80,7 @@ fn add(ledger: &mut Ledger, alloc: Global, act: Act)
     }
 }
 
-/// The ledger takes the next owed entry, and the records that come with it, which stand last, if any are coming.
+/// Adds the next owed entry, with the records that come with it, the last of `coming`, if any are coming.
 pub(crate) fn add_next(ledger: &mut Ledger, alloc: Global, coming: &mut Vec<Coming>, act: Act)
     requires { CanAdd ledger.old (reverse coming.old.items) act }
     ensures added { IsAdded ledger.old ledger.new (reverse coming.old.items) act }
@@ -92,7 +92,7 @@ pub(crate) fn add_next(ledger: &mut Ledger, alloc: Global, coming: &mut Vec<Comi
     }
 }
 
-/// The history alone goes on by an entry that does not end the input, within its room.
+/// Appends an entry that does not end the input to the history alone, within its room.
 pub(crate) fn push(ledger: &mut Ledger, entry: Entry, moment: u64)
     requires going { is_shut_entry entry ≡ false }
     requires room { vec_len ledger.old.history < vec_capacity ledger.old.history }
@@ -103,7 +103,7 @@ pub(crate) fn push(ledger: &mut Ledger, entry: Entry, moment: u64)
     ledger.last = moment;
 }
 
-/// The input ends: in the tables too, where they are kept and nothing is owed.
+/// Adds the end of the input: to the tables too if `whole`, so that they are kept and nothing is owed.
 pub(crate) fn shut(ledger: &mut Ledger, whole: bool, moment: u64)
     requires whole { whole ≡ true → CanShut ledger.old moment }
     requires room { vec_len ledger.old.history < vec_capacity ledger.old.history }

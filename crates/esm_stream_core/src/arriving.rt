@@ -1,4 +1,4 @@
-// Records that come to the ledger: the arrivals that are owed, part by part, and what the filter refuses of them.
+// Owes what records that come bring: their arrival, part by part, and what the filter refuses of them.
 ghost use Rattle.std.specs.Prelude.{◌≡◌, ℕ, ◌+◌, ◌<◌, ◌++◌, ◌∷◌, [], All, not, true, false, map, length, reverse, slice_index_or, IfOk, OnOk, OnErr};
 ghost use Rattle.esm_model.specs.Entries.{holds};
 ghost use Rattle.esm_journal_record.specs.Payload.{IsSaid, names_bytes};
@@ -23,7 +23,7 @@ use esm_model::{Bytes, Fate, OutOfMemory, Places, Record};
 use std::alloc::Global;
 use std::mem;
 
-/// Of so many records from the place `first` on whether each passes the filter: all but those at these places.
+/// Whether each of `count` records from the place `first` on passes the filter: all but those at the refused places.
 fn passing_of(
     alloc: Global,
     first: u32,
@@ -42,8 +42,7 @@ fn passing_of(
     Ok(passing)
 }
 
-/// The places and the sequence numbers of the records there go behind what is written; the first record stands at the
-/// place `first`.
+/// Appends each place with the sequence number of its record. The first of the records is at the place `first`.
 fn push_names(
     out: &mut Vec<u8>,
     first: u32,
@@ -59,7 +58,7 @@ fn push_names(
     Ok(())
 }
 
-/// What is written of the refused places of a part.
+/// The payload of the refused places of a part.
 fn filtered_payload(
     alloc: Global,
     shard: u64,
@@ -79,7 +78,7 @@ fn filtered_payload(
     Ok(out)
 }
 
-/// The refused places of a part are filtered, with what is written of that.
+/// The owed entry by which the refused places of a part are filtered, with its payload.
 fn filtered(
     alloc: Global,
     shard: u64,
@@ -109,7 +108,8 @@ fn filtered(
     })
 }
 
-/// What a list of records brings, as it is gathered part by part: the records, the `Came` of each, and what is filtered.
+/// What a list of records brings, as it is gathered part by part: the records, the `Came` of each part, and what is
+/// filtered.
 #[derive(Drop)]
 pub(crate) struct Gathered {
     pub coming: Vec<Coming>,
@@ -118,8 +118,8 @@ pub(crate) struct Gathered {
 }
 
 impl Gathered {
-    /// The part is prepared, and all that it brings comes behind what was gathered. After `OutOfMemory` nothing has
-    /// changed of the ledger that contracts see.
+    /// Prepares a part and appends all that it brings. After `OutOfMemory` nothing has changed of the ledger that contracts
+    /// see.
     fn take(
         &mut self,
         alloc: Global,
@@ -162,7 +162,7 @@ impl Gathered {
     }
 }
 
-/// The entries of the first list and then those of the second, from the last to the first.
+/// The entries of the first list and then those of the second, in reverse order.
 fn turned(mut first: Vec<Owed>, mut second: Vec<Owed>) -> Result<Vec<Owed>, OutOfMemory>
     ensures { IfOk result (λ out. out.items ≡ reverse (first.items ++ second.items)) }
 {
@@ -171,7 +171,7 @@ fn turned(mut first: Vec<Owed>, mut second: Vec<Owed>) -> Result<Vec<Owed>, OutO
     Ok(first)
 }
 
-/// Each part is prepared, in the memory that the ledger has for so many entries and shards.
+/// Prepares each part, in the room that the ledger has for the entries and the shards.
 fn gather(
     alloc: Global,
     ledger: &mut Ledger,
@@ -197,14 +197,14 @@ fn gather(
     Ok(gathered)
 }
 
-/// What a list of records brings, the next ones last.
+/// What a list of records brings; what is next to be added is last.
 #[derive(Drop)]
 pub(crate) struct Arrived {
     pub coming: Vec<Coming>,
     pub owed: Vec<Owed>,
 }
 
-/// All is prepared for the records of the parts and for what the filter refuses of them. After `OutOfMemory` nothing has
+/// Prepares all for the records of the parts and for what the filter refuses of them. After `OutOfMemory` nothing has
 /// changed that contracts see.
 fn prepare_arrival(
     alloc: Global,
@@ -234,8 +234,8 @@ fn prepare_arrival(
 }
 
 impl StreamCore {
-    /// Records of several shards come, part by part: the `Came` of each part is owed, and then what the filter refuses of
-    /// each. After `OutOfMemory` nothing has changed, and the records are gone.
+    /// Owes the arrival of records of several shards: the `Came` of each part, and then what the filter refuses of each.
+    /// After `OutOfMemory` nothing has changed, and the records are gone.
     pub(crate) fn owe_records(
         &mut self,
         alloc: Global,

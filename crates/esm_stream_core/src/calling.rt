@@ -1,4 +1,4 @@
-// Owing the start of a call of the function, or the expiry of records, with the memory for its end.
+// Owes the start of a call of the function, with the memory for its end, or the expiry of records.
 ghost use Rattle.std.specs.Prelude.{◌≡◌, ◌<◌, ◌∷◌, [], Some, None, true, OnOk, OnErr};
 ghost use Rattle.esm_model.specs.declared.entry.Entry.{Entry};
 ghost use Rattle.esm_model.specs.declared.entry.Fate.{Fate};
@@ -15,7 +15,7 @@ use esm_ledger::Ledger;
 use esm_model::{LaneId, OutOfMemory, Places, Text};
 use std::alloc::Global;
 
-/// Memory for a call that begins, and for its end. After `OutOfMemory` nothing has changed that contracts see.
+/// Prepares memory for a call that begins, and for its end. After `OutOfMemory` nothing has changed that contracts see.
 fn prepare_call(ledger: &mut Ledger, alloc: Global, lane: LaneId) -> Result<(), OutOfMemory>
     requires kept { Keeps ledger.old }
     requires known { lane.lane < ledger.old.config.factor }
@@ -29,8 +29,8 @@ fn prepare_call(ledger: &mut Ledger, alloc: Global, lane: LaneId) -> Result<(), 
 }
 
 impl StreamCore {
-    /// A call of the function is owed: of these places, or a final call of the window `closing` with none. The memory for
-    /// its end is taken too. After `OutOfMemory` nothing has changed.
+    /// Owes a call of the function: of these places, or a final call of the window `closing` with none. Takes the memory for
+    /// its end too. After `OutOfMemory` nothing has changed.
     pub(crate) fn owe_call(
         &mut self,
         alloc: Global,
@@ -59,8 +59,8 @@ impl StreamCore {
         Ok(())
     }
 
-    /// Records of the lane expire: their fate is owed, with the line for the failure destination, where one is set. After
-    /// `OutOfMemory` nothing has changed.
+    /// Owes the expiry of records of the lane, with the line for the failure destination, if one is set. After `OutOfMemory`
+    /// nothing has changed.
     pub(crate) fn owe_expiry(
         &mut self,
         alloc: Global,

@@ -1,4 +1,4 @@
-// The calls, answers and entries of a stream's book, and its core as one that decides them.
+// The calls, answers and entries of a stream's book, and its core as what decides them.
 ghost use Rattle.esm_stream_core.specs.CoreView.{forgotten as forgotten_view};
 ghost use Rattle.esm_stream_core.specs.Told.{history_of, owed_of, opened, IsPayable, MayAsk, Decides, Refuses, IsChange, Notes};
 
@@ -36,18 +36,18 @@ pub enum StreamCall {
     Came(Vec<Record>, u64),
     /// The input ended.
     Shut(u64),
-    /// The batcher of this number asks what it is to do.
+    /// The batcher with this number asks what it does next.
     Next(u32, u64),
-    /// The job's call of the function came to this reply.
+    /// The job's call of the function ended with this reply.
     Done(Job, Reply, u64),
 }
 
-/// The answer of a call.
+/// The answer to a call.
 #[derive(Drop)]
 pub enum StreamAnswer {
     Taken,
     Next(Next),
-    /// So many records get a fate.
+    /// How many records get a fate.
     Given(u32),
 }
 

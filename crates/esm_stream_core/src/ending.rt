@@ -1,4 +1,4 @@
-// Owing the end of a lane's call, and then the entries that this end calls for.
+// Owes the end of a lane's call, and then the entries that it requires.
 ghost use Rattle.std.specs.Prelude.{◌≡◌, ◌+◌, ◌≤◌, ◌∷◌, [], true, length, map, OnOk, OnErr, IfSome, vec_len};
 ghost use Rattle.esm_model.specs.declared.entry.Entry.{Entry};
 ghost use Rattle.esm_model.specs.Tries.{verdict_after};
@@ -20,8 +20,8 @@ use esm_outcome::Outcome;
 use std::alloc::Global;
 use std::mem;
 
-/// Memory for the end of a call and for so many entries that it calls for, and for the window's state and try, if there
-/// is one. After `OutOfMemory` nothing has changed that contracts see.
+/// Prepares memory for the end of a call, for `dues` entries that it requires, and for the state and a try of the window, if
+/// there is one. After `OutOfMemory` nothing has changed that contracts see.
 fn prepare_end(
     ledger: &mut Ledger,
     lane: LaneId,
@@ -42,8 +42,7 @@ fn prepare_end(
 }
 
 impl StreamCore {
-    /// The end of the lane's call is owed, and then what it calls for, in its order. After `OutOfMemory` nothing has
-    /// changed.
+    /// Owes the end of the lane's call, and then what it requires, in its order. After `OutOfMemory` nothing has changed.
     pub(crate) fn owe_end(
         &mut self,
         alloc: Global,

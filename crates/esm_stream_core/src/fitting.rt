@@ -1,4 +1,4 @@
-// Whether the records of a list find places of 32 bits in their shards.
+// Whether the records of a list have places of 32 bits in their shards.
 ghost use Rattle.std.specs.Prelude.{◌≡◌, true};
 ghost use Rattle.esm_ledger.specs.Ledger.{past_of, Keeps};
 ghost use Rattle.esm_ingest.specs.Coming.{FitPlaces};
@@ -6,7 +6,7 @@ ghost use Rattle.esm_ingest.specs.Coming.{FitPlaces};
 use esm_ledger::Ledger;
 use esm_model::Record;
 
-/// Whether the records of each shard find places of 32 bits, if all of the list were of that shard. Takes no memory.
+/// Whether the records of the list have places of 32 bits even if all of them were of the same shard. Takes no memory.
 pub(crate) fn fit_places(ledger: &Ledger, items: &[Record]) -> bool
     requires { Keeps ledger.now }
     ensures { result ≡ true → FitPlaces (past_of ledger.now) items.now }

@@ -1,6 +1,6 @@
-//! The decisions of a stream's book over every valid configuration: what records that come, a batcher that asks and the
-//! end of a call add to its history, each decided at once and then owed entry by entry, for a layer over devices to write.
-//! One value holds the ledger, what is coming and what is owed.
+//! The decisions of a stream's book over every valid configuration: which entries records that come, a batcher that asks and
+//! the end of a call add to its history. Each decision is made at once and then owed entry by entry, for a layer over
+//! devices to write. One value holds the ledger, what is coming and what is owed.
 //! Pure: values in, values out. No device, clock or thread.
 #![tactic(auto)]
 

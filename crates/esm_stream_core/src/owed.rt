@@ -1,7 +1,7 @@
 // An entry that a stream's ledger owes, with its payload for the journal and its line for the failure destination.
 use esm_model::{Bytes, Fate, LaneId, Places, Reply, Text, Verdict, WindowState};
 
-/// An entry that is to be added, with what a ledger needs for it beside the entry. The records of a `Came` are kept apart.
+/// An entry that is to be added, with what a ledger needs for it besides. The records of a `Came` are kept apart.
 #[derive(Drop)]
 pub(crate) enum Act {
     Came {
@@ -23,7 +23,7 @@ pub(crate) enum Act {
         verdict: Verdict,
         moment: u64,
     },
-    /// Records get another fate than that they expire; `copy` is one of the state.
+    /// Records get another fate than `Expired`; `copy` is a copy of the state.
     Gave {
         by: Option<LaneId>,
         shard: u64,
@@ -54,7 +54,7 @@ pub(crate) enum Act {
     },
 }
 
-/// An act, and what is written of its entry in the journal.
+/// An act, and the payload of its entry in the journal.
 #[derive(Drop)]
 pub(crate) struct Owed {
     pub act: Act,

@@ -1,4 +1,4 @@
-//! What is written of an owed entry.
+//! The payloads of owed entries.
 ghost use Rattle.std.specs.Prelude.{◌≡◌, ◌++◌, List, Some, None, length, map, reverse, option_copied, IfOk, OnOk};
 ghost use Rattle.esm_model.specs.Records.{Record};
 ghost use Rattle.esm_model.specs.declared.entry.Fate.{Fate};
@@ -32,7 +32,7 @@ pub(crate) fn next_may_be_written()
     lines_within();
 }
 
-/// The record's place and sequence number go behind what is written, where there is one.
+/// Appends the record's place and sequence number, if there is one.
 fn push_name(out: &mut Vec<u8>, place: u32, found: Option<&Record>) -> Result<(), OutOfMemory>
     ensures { (r : Record) → option_copied found.entry ≡ Some r → OnOk result (out.new.items ≡ out.old.items ++ name_bytes place r.seq) }
 {
@@ -42,7 +42,7 @@ fn push_name(out: &mut Vec<u8>, place: u32, found: Option<&Record>) -> Result<()
     }
 }
 
-/// The places and the sequence numbers of the shard's records there, in order, go behind what is written.
+/// Appends each place of the shard with the sequence number of its record, in order.
 fn push_names(
     out: &mut Vec<u8>,
     ledger: &Ledger,
@@ -71,7 +71,7 @@ fn owed_with(act: Act, payload: Vec<u8>) -> Owed
     }
 }
 
-/// What is written where records of the shard get a fate.
+/// The payload of records of the shard that get a fate.
 fn fates_payload(
     alloc: Global,
     ledger: &Ledger,
@@ -92,7 +92,7 @@ fn fates_payload(
     Ok(out)
 }
 
-/// Records of the lane that expire.
+/// The owed entry by which records of the lane expire.
 pub(crate) fn expired(
     alloc: Global,
     ledger: &Ledger,
@@ -118,7 +118,7 @@ pub(crate) fn expired(
     Ok(owed_with(act, payload))
 }
 
-/// A copy of the state, where there is one.
+/// A copy of the state, if there is one.
 fn state_copy(
     alloc: Global,
     state: &Option<WindowState>,
@@ -134,7 +134,7 @@ fn state_copy(
     }
 }
 
-/// Records that get a fate by the end of the lane's call.
+/// The owed entry by which records get a fate at the end of the lane's call.
 fn given(
     alloc: Global,
     ledger: &Ledger,
@@ -166,7 +166,7 @@ fn given(
     Ok(owed_with(act, payload))
 }
 
-/// What is written where a failed try of the shard's records counts.
+/// The payload of a counted try of the shard's records.
 fn records_tried(
     alloc: Global,
     ledger: &Ledger,
@@ -186,7 +186,7 @@ fn records_tried(
     Ok(out)
 }
 
-/// What is written where a failed try of the lane's records counts, or of a window's final call.
+/// The payload of a counted try, of the lane's records or of a window's final call.
 fn tried_payload(
     alloc: Global,
     ledger: &Ledger,
@@ -215,7 +215,7 @@ fn tried_payload(
     }
 }
 
-/// A failed try that counts: of records, or of a window's final call.
+/// The owed entry of a counted try, of records or of a window's final call.
 fn tried(
     alloc: Global,
     ledger: &Ledger,
@@ -242,7 +242,7 @@ fn tried(
     Ok(owed_with(act, payload))
 }
 
-/// A window that is closed.
+/// The owed entry by which a window is closed.
 fn closed(alloc: Global, lane: LaneId, window: u64, moment: u64) -> Result<Owed, OutOfMemory>
     requires { IsSaid (Said.Closed lane.shard window moment) }
     ensures act { IfOk result (λ owed. owed.act ≡ Act.Closed lane window moment) }
@@ -262,7 +262,7 @@ fn closed(alloc: Global, lane: LaneId, window: u64, moment: u64) -> Result<Owed,
     Ok(owed_with(act, payload))
 }
 
-/// What the end of the lane's call calls for, with what is written of it.
+/// The owed entry that the end of the lane's call requires, with its payload.
 pub(crate) fn due_owed(
     alloc: Global,
     ledger: &Ledger,
@@ -301,7 +301,7 @@ pub(crate) fn due_owed(
     }
 }
 
-/// All that the end of the lane's call calls for, the first last.
+/// All that the end of the lane's call requires, the first last.
 pub(crate) fn dues_owed(
     alloc: Global,
     ledger: &Ledger,

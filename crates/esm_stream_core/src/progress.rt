@@ -5,7 +5,7 @@ use crate::stream_core::StreamCore;
 use esm_ledger::Ledger;
 use esm_model::{MAX_LANES, Progress};
 
-/// How many records the batcher's running call is of; 0 where none runs.
+/// How many records are in the batcher's running call; 0 if none runs.
 fn called_by(ledger: &Ledger, batcher: u32) -> u32
     requires kept { Keeps ledger.now }
 {
@@ -15,7 +15,7 @@ fn called_by(ledger: &Ledger, batcher: u32) -> u32
     }
 }
 
-/// How many records the calls that run are of.
+/// How many records are in the running calls.
 fn in_calls(ledger: &Ledger) -> u64
     requires kept { Keeps ledger.now }
 {
@@ -27,7 +27,7 @@ fn in_calls(ledger: &Ledger) -> u64
 }
 
 impl StreamCore {
-    /// How far the book has come. Where nothing is decided any more, it tells of no call. Takes no memory.
+    /// How far the book has come. Once nothing is decided any more, no record is counted in calls. Takes no memory.
     pub fn progress(&self) -> Progress {
         let counted = self.ledger.progress();
         if !self.standing.is_whole() {

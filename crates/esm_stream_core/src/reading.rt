@@ -1,4 +1,4 @@
-//! What is read of the entries that are owed, and of the fates of a shard.
+//! Reads the entries that are owed, and the fates of a shard.
 ghost use Rattle.std.specs.Prelude.{◌≡◌, ◌<◌, ◌≤◌, ◌++◌, Some, slice_get, [], All, IfOk, IfSome, IfNone, OnOk, length, reverse, option_copied};
 ghost use Rattle.std.specs.List.{cons_option};
 ghost use Rattle.esm_model.specs.declared.limits.TheConstants.{MAX_PAYLOAD};
@@ -14,7 +14,7 @@ use esm_ledger::{Ledger, ShardLedger};
 use esm_model::{Bytes, OutOfMemory, Text};
 use std::alloc::Global;
 
-/// The length of the payload, where there is one.
+/// Appends the length of the payload, if there is one.
 fn push_length(lengths: &mut Vec<u32>, payload: &Option<Bytes>) -> Result<(), OutOfMemory>
     requires { IfSome payload.now (λ bytes. length bytes ≤ MAX_PAYLOAD) }
     ensures { OnOk result (lengths.new.items ≡ lengths.old.items ++ lengths_of (cons_option payload.now [])) }
@@ -25,7 +25,7 @@ fn push_length(lengths: &mut Vec<u32>, payload: &Option<Bytes>) -> Result<(), Ou
     Ok(())
 }
 
-/// The lengths of the payloads, from the last entry to the first.
+/// The lengths of the payloads in bytes, from the last entry to the first.
 pub(crate) fn lengths_in(alloc: Global, owed: &[Owed]) -> Result<Vec<u32>, OutOfMemory>
     requires { All HasShortPayload owed.now }
     ensures { IfOk result (λ lengths. lengths.items ≡ lengths_of (payloads_in (reverse owed.now))) }
@@ -39,7 +39,7 @@ pub(crate) fn lengths_in(alloc: Global, owed: &[Owed]) -> Result<Vec<u32>, OutOf
     Ok(lengths)
 }
 
-/// The bytes of the text, where there is one.
+/// The bytes of the text, if there is one.
 fn bytes_in(line: &Option<Text>) -> Option<&[u8]>
     ensures { option_copied result ≡ line.entry.now }
 {
@@ -49,7 +49,7 @@ fn bytes_in(line: &Option<Text>) -> Option<&[u8]>
     }
 }
 
-/// The line of the entry, where it has one.
+/// The line of the entry, if it has one.
 pub(crate) fn line_in(act: &Act) -> Option<&[u8]>
     ensures { option_copied result ≡ entry_line (act_entry act.entry.now) }
 {
@@ -74,7 +74,7 @@ pub(crate) fn line_in(act: &Act) -> Option<&[u8]>
     }
 }
 
-/// The number of bytes of the line, where one of the entries has one. There is one at most; the first entry stands last.
+/// The length of the line in bytes, if one of the entries has one; at most one has. The first entry is last.
 pub(crate) fn line_bound(owed: &[Owed]) -> Option<u64>
     requires { length (lines_of (entries_of (reverse owed.now))) ≤ 1 }
     ensures within { IfSome result (IsLineWithin (lines_of (entries_of (reverse owed.now)))) }

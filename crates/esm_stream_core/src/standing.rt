@@ -1,4 +1,4 @@
-// How far a stream's ledger can decide more, after an owed entry is paid, given up or left.
+// How far a stream's ledger can decide more, after an owed entry is paid, discarded or left.
 ghost use Rattle.std.specs.Prelude.{◌≡◌};
 ghost use Rattle.esm_stream_core.specs.Standing.{standing_paid, standing_forgotten, standing_shut, is_whole};
 
@@ -9,12 +9,12 @@ pub enum Standing {
     Whole,
     /// Some of the owed entries were added: with the others the history is legal and settled.
     Paying,
-    /// What the history calls for was left: nothing more is decided, and what is owed is added no more.
+    /// What the history requires was left: nothing more is decided, and what is owed is no longer added.
     Left,
 }
 
 impl Standing {
-    /// After an owed entry was added; `more` tells that another is owed.
+    /// After an owed entry was added; `more` says that another is owed.
     pub(crate) fn paid(self, more: bool) -> Standing
         ensures { result ≡ standing_paid self more }
     {
@@ -25,7 +25,7 @@ impl Standing {
         }
     }
 
-    /// After what was owed is given up.
+    /// After what was owed is discarded.
     pub(crate) fn forgotten(self) -> Standing
         ensures { result ≡ standing_forgotten self }
     {
@@ -35,7 +35,7 @@ impl Standing {
         }
     }
 
-    /// After the end of the input; `none` tells that nothing was owed.
+    /// After the end of the input; `none` says that nothing was owed.
     pub(crate) fn shut(self, none: bool) -> Standing
         ensures { result ≡ standing_shut self none }
     {

@@ -1,4 +1,4 @@
-// The core of a stream's book: it decides on records that come, the input's end, batchers' asks and replies.
+// The core of a stream's book: it decides on records that come, batchers that ask and replies, and notes the input's end.
 ghost use Rattle.std.specs.Prelude.{◌≡◌, ℕ, ◌<◌, ◌≤◌, ◌^◌, ◌∷◌, [], Some, true, false, min, max, All, IfOk, IfErr, IfSome, IfNone, OnOk};
 ghost use Rattle.std.specs.Prelude.{OnErr, length, take, reverse};
 ghost use Rattle.std.specs.List.{filter_map};
@@ -43,14 +43,15 @@ use esm_shard_index::progress_laws::{progress_stays, progress_tells};
 use std::alloc::Global;
 use std::marker::Model;
 
-/// The decisions of a stream's book, seen as what its history is judged over, the history, what is coming and owed, and
-/// how far more can be decided.
+/// The decisions of a stream's book, seen as what its history is judged over, the history, what is coming and owed, and how
+/// far more can be decided.
 ///
-/// Moments are in milliseconds since 1970; an entry has the moment that is handed in, or that of the last entry where
-/// that is later, and at most 9999-12-31T23:59:59.999Z. Places count a shard's records from 0.
-/// A history that would come to more than 2^40 entries is refused as want of memory, and so are a shard's records from
-/// the place 2^32 on, and each decision of a core that was left: of which a call of the function ended without what that
-/// calls for, whose input ended over what was owed, or of which what was owed was forgotten when half added.
+/// Moments are in milliseconds since 1970. An entry has the moment that is handed in, or that of the last entry if that is
+/// later, and at most 9999-12-31T23:59:59.999Z. Places count a shard's records from 0.
+/// `OutOfMemory` is also the answer if the history would have 2^40 entries or more, if a shard's records and all those of
+/// the list would be 2^32 or more, and to each decision of a core that was left: one in which a call of the function ended
+/// without what that requires, whose input ended while entries were owed, or whose owed entries were discarded when some
+/// were added.
 #[derive(Drop)]
 pub struct StreamCore {
     pub(crate) ledger: Ledger,
@@ -74,7 +75,7 @@ impl Model for StreamCore {
     ghost invariant = { IsCore };
 }
 
-/// The moment that is noted: not before the last one.
+/// The moment of the next entry: not before the last one, and at most `MAX_MOMENT`.
 fn raised_to(last: u64, moment: u64) -> u64
     requires { last ≤ MAX_MOMENT }
     ensures value { result ≡ min (max moment last) MAX_MOMENT }
@@ -99,7 +100,7 @@ fn change_copy(alloc: Global, change: &Change) -> Result<Change, OutOfMemory>
 }
 
 impl StreamCore {
-    /// A core in which no record came, for so many calls in all, with what the journal told at opening.
+    /// A core in which no record came, for `calls` calls in all, with what the journal said at opening.
     pub fn new(
         alloc: Global,
         config: Config,
@@ -123,11 +124,10 @@ impl StreamCore {
         })
     }
 
-    /// Decides on records that come: one `Came` for each shard of the list, in the order of first appearance; then, for
-    /// each of them with records that fail the filter and have no found fate, their fate. A list with a record that stands
-    /// in the stream with another sequence number than was kept of it, with a fate or with tries, is refused whole, and
-    /// the first such record is told (Lambda Developer Guide, event filtering for Kinesis). After a refusal the core is as
-    /// before.
+    /// Decides on records that come: one `Came` for each shard of the list, in the order of first appearance; then, for each
+    /// of them with records that fail the filter and have no found fate, their fate (Lambda Developer Guide, event filtering
+    /// for Kinesis). A list with a record whose sequence number differs from the one that was kept of it, with a fate or
+    /// with tries, is refused whole as `Changed`, which has the first such record. After a refusal the core is as before.
     pub fn came(&mut self, alloc: Global, items: Vec<Record>, moment: u64) -> Result<(), Refusal>
         requires settled { self.old.owed ≡ [] }
         requires going { is_shut self.old.past ≡ false }
@@ -137,7 +137,7 @@ impl StreamCore {
         ensures owes { OnOk result (self.new ≡ owing self.old (coming_lists self.old items.items)
             (came_entries self.old items.items (moment_for self.old.past moment))) }
         ensures same { OnOk result (NoneDiffers self.old items.items) }
-        // what stands after a refusal
+        // what a refusal leaves
         ensures refused { IfErr result (IsRefused (Differs self.old items.items)) }
         ensures unchanged { OnErr result (self.new ≡ self.old) }
         // that it can be added
@@ -163,9 +163,9 @@ impl StreamCore {
         Ok(())
     }
 
-    /// What the batcher does next, by the first rule that holds; a call, or records that expire, are owed (Lambda
-    /// Developer Guide, event source mappings for Kinesis: batching behavior, tumbling windows, error handling). The
-    /// batcher's lane is not running. After `OutOfMemory` the core is as before.
+    /// Decides what the batcher does next, by the first rule that holds, and owes the call, or the expiry of records (Lambda
+    /// Developer Guide, event source mappings for Kinesis: batching behavior, tumbling windows, error handling). No call of
+    /// the batcher's lane may be running. After `OutOfMemory` the core is as before.
     pub fn next(&mut self, alloc: Global, batcher: u32, moment: u64) -> Result<Next, OutOfMemory>
         requires settled { self.old.owed ≡ [] }
         requires rests { IsResting self.old batcher }
@@ -198,9 +198,9 @@ impl StreamCore {
         }
     }
 
-    /// Decides what the end of the job calls for: its `Ended`, and then the fates, tries, states and closed windows that
-    /// the reply brings; answers how many records get a fate (Lambda Developer Guide, error handling for Kinesis). After
-    /// `OutOfMemory` the core is as before, and the job and the reply are dropped.
+    /// Decides what the end of the job requires: its `Ended`, and then the fates, tries, states and closed windows that
+    /// follow from the reply. Returns how many records get a fate (Lambda Developer Guide, error handling for Kinesis).
+    /// After `OutOfMemory` the core is as before, and the job and the reply are dropped.
     pub fn done(
         &mut self,
         alloc: Global,
@@ -228,7 +228,8 @@ impl StreamCore {
         Ok(given)
     }
 
-    /// Gives up what is owed. Takes no memory.
+    /// Discards what is owed. This rolls back a decision of which no entry was added; if some were added, nothing more is
+    /// decided. Takes no memory.
     pub fn forget(&mut self)
         ensures { self.new ≡ forgotten self.old }
     {
@@ -251,8 +252,8 @@ impl StreamCore {
         self.standing = self.standing.paid(!self.owed.as_slice().is_empty());
     }
 
-    /// Notes the end of the job's call, where nothing that this calls for is added any more. Takes no memory: the
-    /// room was kept since the call began.
+    /// Notes the end of the job's call, when nothing that it requires is added any more. Takes no memory: the room was kept
+    /// since the call began.
     pub fn note_ended(&mut self, job: Job, reply: Reply, moment: u64)
         requires runs { IsRunningJob self.old.past job }
         ensures { self.new ≡ noted self.old (Entry.Ended job.lane reply (moment_for self.old.past moment)) }
@@ -268,7 +269,8 @@ impl StreamCore {
         self.standing = Standing::Left;
     }
 
-    /// Notes that the input ended: what is owed then is left. Takes no memory: there is always room for this entry.
+    /// Notes that the input ended. What is owed then is left: it is no longer added. Takes no memory: there is always room
+    /// for this entry.
     pub fn shut(&mut self, moment: u64)
         requires going { is_shut self.old.past ≡ false }
         ensures { self.new ≡ noted_shut self.old (Entry.Shut (moment_for self.old.past moment)) }
@@ -295,7 +297,7 @@ impl StreamCore {
         Ok(lengths)
     }
 
-    /// The number of bytes of the owed line, where an owed entry has one; no two of them have. Takes no memory.
+    /// The length of the owed line in bytes, if an owed entry has one; at most one has. Takes no memory.
     pub fn owed_line_bound(&self) -> Option<u64>
         ensures within { IfSome result (IsLineWithin (lines_of self.now.owed)) }
         ensures none { IfNone result (lines_of self.now.owed ≡ []) }
@@ -303,7 +305,7 @@ impl StreamCore {
         line_bound(self.owed.as_slice())
     }
 
-    /// The payload of the first owed entry, where it has one. Takes no memory.
+    /// The payload of the first owed entry, if it has one. Takes no memory.
     pub fn first_payload(&self) -> Option<&[u8]>
         requires { 0 < length self.now.owed }
         ensures payload { IfSome result (λ bytes. payloads_of self.entry.now (take 1 self.entry.now.owed) ≡ bytes.now ∷ []) }
@@ -319,7 +321,7 @@ impl StreamCore {
         }
     }
 
-    /// The line of the first owed entry, where it has one. Takes no memory.
+    /// The line of the first owed entry, if it has one. Takes no memory.
     pub fn first_line(&self) -> Option<&[u8]>
         requires { 0 < length self.now.owed }
         ensures line { IfSome result (λ bytes. lines_of (take 1 self.entry.now.owed) ≡ bytes.now ∷ []) }
@@ -348,7 +350,7 @@ impl StreamCore {
     }
 
     /// Whether nothing is left for the batchers below the number: no record of their lanes is open, and no window of their
-    /// shards is outstanding. `None` where nothing is decided any more. Takes no memory.
+    /// shards is outstanding. `None` if nothing is decided any more. Takes no memory.
     pub fn is_over(&self, batchers: u32) -> Option<bool>
         requires settled { self.now.owed ≡ [] }
         ensures over { result ≡ Some true → (k : ℕ) → k < batchers → IsQuiet self.now.setting self.now.past k }
@@ -360,8 +362,7 @@ impl StreamCore {
         Some(is_over(&self.ledger, batchers))
     }
 
-    /// How many of the shard's first records all have a fate. `None` exactly where the shard has not come. Takes no
-    /// memory.
+    /// How many of the shard's first records all have a fate; `None` if and only if the shard has not come. Takes no memory.
     pub fn checkpoint(&self, shard: u64) -> Option<u32>
         ensures { result ≡ checkpoint_of self.now.setting self.now.past shard }
     {
@@ -372,8 +373,8 @@ impl StreamCore {
         }
     }
 
-    /// How many records have a fate and stand past the checkpoint. `None` exactly where the shard has not come. Takes no
-    /// memory.
+    /// How many of the shard's records past the checkpoint have a fate; `None` if and only if the shard has not come. Takes
+    /// no memory.
     pub fn spread(&self, shard: u64) -> Option<u32>
         ensures { result ≡ spread_of self.now.setting self.now.past shard }
     {
@@ -384,10 +385,10 @@ impl StreamCore {
         }
     }
 
-    /// What is true of every core, whoever made its calls: the records that came are those that its history tells, none is
-    /// coming where nothing is owed, or where the first owed entry has a payload, which is one of records that came; the
-    /// first owed entry may follow the history, or a front of it after which calls and the input ended alone; no moment is
-    /// past the last one, and each record is valid, in the list of its shard. Does nothing.
+    /// What holds of every core, whoever made its calls. The records that came are those of its history. None is coming if
+    /// nothing is owed, or if the first owed entry has a payload; that payload is one of records that came. The first owed
+    /// entry may follow the history, or a prefix of it that only ends of calls and of the input follow. No moment is above
+    /// `MAX_MOMENT`, and each record is valid and in the list of its shard. Does nothing.
     pub fn keeps(&self)
         ensures records { self.now.setting.streams ≡ streams_told (told_of self.now) }
         ensures rests { self.now.owed ≡ [] → self.now.coming ≡ [] }

@@ -1,4 +1,4 @@
-// Carrying out the lines of the text, one after the other, and writing down what they tell.
+// Carrying out the lines of the text, one after the other, and writing down what they print.
 use crate::looks::{add, add_ended, add_look};
 use crate::script::{Deed, Line};
 use crate::settings::{Files, Setting, set};
@@ -18,7 +18,7 @@ struct Named {
     text: String,
 }
 
-/// Where the text stands: its names, the world of the example, and what the last command left.
+/// The state of the text: its names, the world of the example, and what the last command left.
 #[derive(Drop)]
 pub struct Stage {
     names: Vec<Named>,
@@ -38,7 +38,7 @@ impl Stage {
         })
     }
 
-    /// The line with each name replaced by its text, in the order in which they were given.
+    /// Returns the line with each name replaced by its text, in the order in which the names were given.
     pub fn written_out(&self, alloc: Global, line: &str) -> Result<String, OutOfMemory> {
         let mut line = String::from_str(alloc, line)?;
         for named in &self.names {
@@ -49,7 +49,7 @@ impl Stage {
         Ok(line)
     }
 
-    /// Gives a text a name.
+    /// Gives the text this name.
     fn call(&mut self, alloc: Global, name: &str, text: &str) -> Result<(), OutOfMemory> {
         let name = String::from_str(alloc, name)?;
         let text = String::from_str(alloc, text)?;
@@ -70,7 +70,7 @@ impl Stage {
     }
 }
 
-/// Adds a line as it stands in the text.
+/// Adds a line as the text has it.
 fn add_line(page: &mut Vec<u8>, line: &str) -> Result<(), OutOfMemory> {
     add(page, line)?;
     add(page, "\n")
@@ -87,7 +87,7 @@ fn files_of(alloc: Global, ended: &MemEnded) -> Result<Files, OutOfMemory> {
     })
 }
 
-/// Takes up the files and the moment as a command left them.
+/// Keeps the files and the moment as a command left them, for the next one.
 fn keep(alloc: Global, setting: &mut Setting, ended: &MemEnded) -> Result<(), OutOfMemory> {
     setting.files = files_of(alloc, ended)?;
     setting.moment = ended.world.clock.now();
@@ -96,7 +96,7 @@ fn keep(alloc: Global, setting: &mut Setting, ended: &MemEnded) -> Result<(), Ou
     Ok(())
 }
 
-/// Carries out the command of the words, and writes down what it told.
+/// Carries out the command of the words, and writes down what it printed.
 fn command<R: Threads + Wait + Sync>(
     rt: &R,
     alloc: Global,
@@ -112,7 +112,7 @@ fn command<R: Threads + Wait + Sync>(
     Ok(())
 }
 
-/// Carries out what a line asks for, and writes it down.
+/// Carries out what a line requires, and writes it down.
 fn carry_out<R: Threads + Wait + Sync>(
     rt: &R,
     alloc: Global,
@@ -150,7 +150,7 @@ fn carry_out<R: Threads + Wait + Sync>(
     }
 }
 
-/// Takes up or carries out what a line says, which stands so in the text, and writes down what it tells.
+/// Applies or carries out the line, which reads `text` in the examples, and writes down what it prints.
 pub fn play<R: Threads + Wait + Sync>(
     rt: &R,
     alloc: Global,

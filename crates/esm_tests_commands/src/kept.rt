@@ -1,4 +1,4 @@
-// What the files of a world keep: the fates that the journal tells, and the failure lines.
+// What the files of a world hold: the fates that the journal records, and the failure lines.
 use crate::settings::Files;
 use esm_fixtures::disk;
 use esm_io::MemDisk;
@@ -7,7 +7,7 @@ use esm_journal_state::{Says, SaysError, says};
 use esm_model::{Entry, OutOfMemory};
 use std::alloc::Global;
 
-/// What a journal's payloads say; `None` where one of them is bad.
+/// What a journal's payloads say; `None` if one of them is bad.
 fn said_by(alloc: Global, pair: &Pair<MemDisk>) -> Result<Option<Says>, OutOfMemory> {
     match says(alloc, pair.payloads()) {
         Ok(said) => Ok(Some(said)),
@@ -16,7 +16,7 @@ fn said_by(alloc: Global, pair: &Pair<MemDisk>) -> Result<Option<Says>, OutOfMem
     }
 }
 
-/// What the journal says; `None` where it is no journal of version 2, or has a bad payload.
+/// What the journal says; `None` if it is not a journal of version 2, or has a bad payload.
 pub fn said_in(alloc: Global, files: &Files) -> Result<Option<Says>, OutOfMemory> {
     let journal = disk(alloc, files.journal.as_slice(), &[])?;
     let spare = disk(alloc, files.spare.as_slice(), &[])?;
@@ -29,7 +29,7 @@ pub fn said_in(alloc: Global, files: &Files) -> Result<Option<Says>, OutOfMemory
     }
 }
 
-/// Whether the journal tells that the command has nothing more to call at the place: a replay calls no record that was
+/// Whether the journal says that the command has nothing more to call at the place: a replay calls no record that was
 /// replayed, a redrive no message that is deleted, and every other command no record that has a fate.
 fn is_over(said: &Says, command: &str, shard: u64, place: u32) -> bool {
     match command {
@@ -50,7 +50,7 @@ fn over_among(said: &Says, command: &str, shard: u64, places: &[u32]) -> usize {
     count
 }
 
-/// How many records the calls of the command's history have of which it had nothing more to call.
+/// How many records the calls of the command's history have that were not to be called any more.
 pub fn called_again(said: &Says, command: &str, history: &[Entry]) -> usize {
     let mut count = 0usize;
     for entry in history {
@@ -62,7 +62,7 @@ pub fn called_again(said: &Says, command: &str, history: &[Entry]) -> usize {
     count
 }
 
-/// How many failure lines a file has; 0 where it is no journal.
+/// How many failure lines a file has, or 0 if it is not a journal.
 pub fn failure_lines(alloc: Global, bytes: &[u8]) -> Result<usize, OutOfMemory> {
     match Journal::open(alloc, disk(alloc, bytes, &[])?) {
         Ok(journal) => Ok(journal.payloads().len()),

@@ -1,4 +1,4 @@
-// Writing down what a command left: what it told, its calls, its events and its files.
+// Writing down what a command left: what it printed, its calls, its events and its files.
 use crate::script::{Device, Look};
 use crate::worlds::MemEnded;
 use esm_io::{MemDoor, ScriptCaller};
@@ -6,13 +6,13 @@ use esm_model::{Entry, OutOfMemory};
 use std::alloc::Global;
 use std::str::from_utf8;
 
-/// Adds a text.
+/// Appends a text.
 pub fn add(page: &mut Vec<u8>, text: &str) -> Result<(), OutOfMemory> {
     page.extend_from_slice(text.as_bytes())?;
     Ok(())
 }
 
-/// Adds a line of these bytes; nothing for no bytes, and no second line feed.
+/// Appends these bytes as a line: without a second line feed, and nothing if there are no bytes.
 pub fn add_told(page: &mut Vec<u8>, told: &[u8]) -> Result<(), OutOfMemory> {
     page.extend_from_slice(told)?;
     match told.last() {
@@ -22,7 +22,7 @@ pub fn add_told(page: &mut Vec<u8>, told: &[u8]) -> Result<(), OutOfMemory> {
     }
 }
 
-/// Adds what a command told, and its status.
+/// Appends what a command printed, and its status.
 pub fn add_ended(alloc: Global, page: &mut Vec<u8>, ended: &MemEnded) -> Result<(), OutOfMemory> {
     add_told(page, ended.world.out.written())?;
     let status = ended.status;
@@ -30,7 +30,7 @@ pub fn add_ended(alloc: Global, page: &mut Vec<u8>, ended: &MemEnded) -> Result<
     add(page, line.as_str())
 }
 
-/// Adds when a call began, its number of records, and the places of the first and the last one.
+/// Appends when a call began, its number of records, and the places of the first and the last one.
 fn add_call(
     alloc: Global,
     page: &mut Vec<u8>,
@@ -57,7 +57,7 @@ fn add_calls(alloc: Global, page: &mut Vec<u8>, trace: &[Entry]) -> Result<(), O
     Ok(())
 }
 
-/// Adds each event of a caller.
+/// Appends each event of a caller.
 fn add_events_of(page: &mut Vec<u8>, caller: &ScriptCaller) -> Result<(), OutOfMemory> {
     for called in caller.log().unwrap_or(&[]) {
         add_told(page, called.event.as_slice())?;
@@ -72,7 +72,7 @@ fn add_events(page: &mut Vec<u8>, callers: &[ScriptCaller]) -> Result<(), OutOfM
     Ok(())
 }
 
-/// Adds the number of bytes of each event of a caller.
+/// Appends the length in bytes of each event of a caller.
 fn add_sizes_of(
     alloc: Global,
     page: &mut Vec<u8>,
@@ -97,7 +97,7 @@ fn add_sizes(
     Ok(())
 }
 
-/// Adds the answer to each connection, without its carriage returns.
+/// Appends the answer to each connection, without its carriage returns.
 fn add_answers(alloc: Global, page: &mut Vec<u8>, door: &MemDoor) -> Result<(), OutOfMemory> {
     for link in door.closed() {
         let text = from_utf8(link.written()).unwrap_or("");
@@ -111,7 +111,7 @@ fn add_answers(alloc: Global, page: &mut Vec<u8>, door: &MemDoor) -> Result<(), 
     Ok(())
 }
 
-/// The file of this name as a command left it; `None` where the device is none.
+/// The file of this name as a command left it; `None` if the device is not a file.
 pub fn file_of(ended: &MemEnded, device: Device) -> Option<&[u8]> {
     match device {
         Device::Journal => Some(ended.world.journal.bytes()),
@@ -134,7 +134,7 @@ fn add_bytes(
     add(page, "\n")
 }
 
-/// Adds what is looked at.
+/// Appends what the line looks at.
 pub fn add_look(
     alloc: Global,
     page: &mut Vec<u8>,

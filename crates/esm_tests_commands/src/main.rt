@@ -1,6 +1,6 @@
-//! The worked examples of whole commands: it reads a text of examples from standard input, carries out each of its commands
-//! over a world of devices in memory, and prints the commands and what they told. The exit status is 0; 2 at a line that is
-//! of none of the forms, 5 where the output failed, and 70 for want of memory.
+//! The worked examples of whole commands: the program reads a text of examples from standard input, carries out each of
+//! its commands over a world of devices in memory, and prints the commands with their output. The exit status is 0; 2 at
+//! a line that has none of the forms, 5 if the output failed, and 70 if memory runs out.
 #![tactic(auto)]
 
 mod commands;
@@ -53,7 +53,7 @@ fn print(rt: &impl Print, page: &[u8]) -> Result<(), Stop> {
     }
 }
 
-/// Prints that the line with this number, counted from 0, is of none of the forms.
+/// Prints that the line with this number, counted from 0, has none of the forms.
 fn bad_line(rt: &impl Print, alloc: Global, index: usize) -> Stop {
     let number = index.saturating_add(1);
     let Ok(line) = format!(in alloc; "bad line {number}\n") else {
@@ -65,7 +65,7 @@ fn bad_line(rt: &impl Print, alloc: Global, index: usize) -> Stop {
     }
 }
 
-/// Carries out the line with this number, counted from 0, and prints what it tells.
+/// Carries out the line with this number, counted from 0, and prints the result.
 fn play_line<R: Threads + Wait + Sync + Print>(
     rt: &R,
     alloc: Global,

@@ -1,6 +1,6 @@
-// The lines of the examples' text: what each of them says.
+// The lines of the examples' text, and what each of them says.
 
-/// What a world has that may fail: its devices, and the first of its callers.
+/// The devices of a world that may fail, among them the first of its callers.
 #[derive(Clone, Copy, PartialEq, Eq)]
 pub enum Device {
     Input,
@@ -12,7 +12,7 @@ pub enum Device {
     Caller,
 }
 
-/// A call of a device, by its number from 0, that is to fail.
+/// A call of a device that is to fail; `call` is its number, counted from 0.
 #[derive(Clone, Copy)]
 pub struct Fault {
     pub device: Device,
@@ -24,7 +24,7 @@ pub struct Fault {
 pub enum Line<'a> {
     /// `# ..`, or an empty line.
     Nothing,
-    /// `= NAME`: a new example begins, in a new world.
+    /// `= NAME`: begins a new example, in a new world.
     Example,
     /// `let NAME TEXT`: the name stands for the text in all later lines.
     Name { name: &'a str, text: &'a str },
@@ -33,12 +33,12 @@ pub enum Line<'a> {
     Look(Look),
 }
 
-/// What a line says of the world that commands are carried out in.
+/// What a line says of the world in which commands are carried out.
 #[derive(Clone, Copy)]
 pub enum Given<'a> {
-    /// `bare`: the four files have no bytes.
+    /// `bare`: the four files are empty.
     Bare,
-    /// `journal HEX`, and so of the other files: the file's bytes.
+    /// `journal HEX`, and the same for the other files: the file's bytes.
     File {
         device: Device,
         hex: &'a str,
@@ -49,15 +49,15 @@ pub enum Given<'a> {
     InputPart(&'a str),
     /// `no input`: the input is empty.
     NoInput,
-    /// `many FIRST LAST TEXT`: a line of the input for each of the numbers, which stands for each `%` of the text, with
-    /// as many digits as FIRST at least.
+    /// `many FIRST LAST TEXT`: a line of the input for each of the numbers, which replaces each `%` of the text and has
+    /// at least as many digits as FIRST.
     Many {
         first: u64,
         last: u64,
         digits: usize,
         text: &'a str,
     },
-    /// `spaces N`: so many spaces in the input.
+    /// `spaces N`: this many spaces in the input.
     Spaces(usize),
     /// `succeeds`: the function answers status 200 with no body.
     Succeeds,
@@ -66,13 +66,13 @@ pub enum Given<'a> {
         status: u16,
         body: &'a str,
     },
-    /// `fails TEXT`: the function answers the function error where its event has the text.
+    /// `fails TEXT`: the function answers with the function error if its event has the text.
     Fails(&'a str),
     /// `clock N`: the moment, in milliseconds since 1970.
     Clock(u64),
     /// `fault DEVICE N`: the call of the device with this number, from 0, fails in the next command.
     Fault(Fault),
-    /// `connection TEXT`: a connection of the next command that sends the text, in which `\r` and `\n` are escapes.
+    /// `connection TEXT`: a connection of the next command, which sends the text; `\r` and `\n` in it are escapes.
     Connection(&'a str),
 }
 
@@ -81,18 +81,18 @@ pub enum Given<'a> {
 pub enum Deed<'a> {
     /// `$ WORDS`: the command.
     Command(&'a str),
-    /// `each DEVICE: WORDS`: the command over and over, each time with the next call of the device failing.
+    /// `each DEVICE: WORDS`: the command again and again, each time with the next call of the device failing.
     Each {
         device: Device,
         words: &'a str,
     },
-    /// `stops DEVICE: WORDS; WORDS`: the same, and after each time a crash and the second command.
+    /// `stops DEVICE: WORDS; WORDS`: the same, each time followed by a crash and the second command.
     Stops {
         device: Device,
         words: &'a str,
         then: &'a str,
     },
-    /// `cuts DEVICE: WORDS`: the command over each front of the file's bytes.
+    /// `cuts DEVICE: WORDS`: the command over each prefix of the file's bytes.
     Cuts {
         device: Device,
         words: &'a str,
@@ -106,7 +106,7 @@ pub enum Look {
     Calls,
     /// `events`: the events that the callers sent, caller by caller.
     Events,
-    /// `sizes`: the numbers of bytes of these events.
+    /// `sizes`: the lengths in bytes of these events.
     Sizes,
     /// `entries`: the number of entries of the history.
     Entries,
@@ -116,7 +116,7 @@ pub enum Look {
     Answered,
 }
 
-/// The device of this name.
+/// The device with this name.
 fn device_of(word: &str) -> Option<Device> {
     match word {
         "input" => Some(Device::Input),
@@ -168,7 +168,7 @@ fn answers(rest: &str) -> Option<Given<'_>> {
     })
 }
 
-/// What a line of this first word and this rest says of the world.
+/// What a line with this first word and this rest says of the world.
 fn given_of<'a>(word: &str, rest: &'a str) -> Option<Given<'a>> {
     match word {
         "bare" if rest.is_empty() => Some(Given::Bare),
@@ -197,7 +197,7 @@ fn stops(rest: &str) -> Option<Deed<'_>> {
     })
 }
 
-/// What a line of this first word and this rest has carried out.
+/// What a line with this first word and this rest has carried out.
 fn deed_of<'a>(word: &str, rest: &'a str) -> Option<Deed<'a>> {
     match word {
         "$" => Some(Deed::Command(rest)),
@@ -216,7 +216,7 @@ fn deed_of<'a>(word: &str, rest: &'a str) -> Option<Deed<'a>> {
     }
 }
 
-/// What a line of this first word and this rest looks at.
+/// What a line with this first word and this rest looks at.
 fn look_of(word: &str, rest: &str) -> Option<Look> {
     match word {
         "calls" if rest.is_empty() => Some(Look::Calls),
@@ -237,7 +237,7 @@ fn name(rest: &str) -> Option<Line<'_>> {
     Some(Line::Name { name, text })
 }
 
-/// What a line says; `None` where it is of none of the forms.
+/// Returns what a line says; `None` if it has none of the forms.
 pub fn read_line(text: &str) -> Option<Line<'_>> {
     let (word, rest) = text.split_once(' ').unwrap_or((text, ""));
     if text.is_empty() || word == "#" {

@@ -1,4 +1,4 @@
-// What the lines of an example said of its world so far, and the bytes of its files.
+// The world of an example as its lines have set it so far, and the bytes of its files.
 use crate::script::{Device, Fault, Given};
 use crate::texts::padded;
 use esm_fixtures::{FRESH, NO_LINES, SPARE};
@@ -43,7 +43,7 @@ impl Files {
         })
     }
 
-    /// The file of this name; `None` where the device is none.
+    /// The file of this name; `None` if the device is not a file.
     pub fn get(&self, device: Device) -> Option<&[u8]> {
         match device {
             Device::Journal => Some(self.journal.as_slice()),
@@ -54,7 +54,7 @@ impl Files {
         }
     }
 
-    /// Gives the file of this name these bytes; nothing where the device is none.
+    /// Gives the file of this name these bytes; does nothing if the device is not a file.
     pub fn set(&mut self, device: Device, bytes: Vec<u8>) {
         match device {
             Device::Journal => self.journal = bytes,
@@ -66,7 +66,7 @@ impl Files {
     }
 }
 
-/// An answer of the function without the function error.
+/// An answer of the function, without the function error.
 #[derive(Drop)]
 pub struct Answer {
     pub status: u16,
@@ -78,14 +78,14 @@ pub struct Answer {
 pub enum Functions {
     /// These answers in order, and then status 200 with no body.
     Answer(Vec<Answer>),
-    /// The function error where the event has the text, else status 200 with no body.
+    /// The function error if the event has the text, otherwise status 200 with no body.
     Fail(Vec<u8>),
 }
 
 /// The world of an example between its commands.
 #[derive(Drop)]
 pub struct Setting {
-    /// Each command reads it from its beginning.
+    /// The bytes of the input; each command reads them from their beginning.
     pub input: Vec<u8>,
     pub files: Files,
     /// Milliseconds since 1970.
@@ -98,7 +98,7 @@ pub struct Setting {
 }
 
 impl Setting {
-    /// A world without input and connections, with files as `init` makes them, at moment 0, in which the function
+    /// Makes a world without input and connections, with files as `init` makes them, at moment 0, in which the function
     /// succeeds.
     pub fn new(alloc: Global) -> Result<Setting, OutOfMemory> {
         Ok(Setting {
@@ -112,7 +112,7 @@ impl Setting {
     }
 }
 
-/// Adds lines to the input, one for each of the numbers, which stands for each `%` of the text.
+/// Appends lines to the input, one for each of the numbers, which replaces each `%` of the text.
 fn add_many(
     alloc: Global,
     input: &mut Vec<u8>,
@@ -129,7 +129,7 @@ fn add_many(
     Ok(())
 }
 
-/// Adds an answer to those of a function that did not fail before.
+/// Appends an answer to those of the function; a function that failed answers from now on.
 fn add_answer(
     alloc: Global,
     functions: &mut Functions,
@@ -149,13 +149,13 @@ fn add_answer(
     Ok(())
 }
 
-/// What a connection sends, whose text has the escapes `\r` and `\n`.
+/// What a connection sends; its text has the escapes `\r` and `\n`.
 fn unescaped(alloc: Global, text: &str) -> Result<String, OutOfMemory> {
     let text = text.replace(alloc, "\\r", "\r")?;
     Ok(text.as_str().replace(alloc, "\\n", "\n")?)
 }
 
-/// Adds what a line says of the input.
+/// Applies what a line says of the input.
 fn set_input(alloc: Global, input: &mut Vec<u8>, given: Given<'_>) -> Result<(), OutOfMemory> {
     match given {
         Given::InputLine(text) => {
@@ -175,7 +175,7 @@ fn set_input(alloc: Global, input: &mut Vec<u8>, given: Given<'_>) -> Result<(),
     Ok(())
 }
 
-/// Takes up what a line says of the world.
+/// Applies what a line says of the world.
 pub fn set(alloc: Global, setting: &mut Setting, given: Given<'_>) -> Result<(), OutOfMemory> {
     match given {
         Given::Bare => setting.files = Files::empty(alloc),

@@ -1,4 +1,5 @@
-// The tables: a command with each call of a device failing in turn, with a crash after it, and over each front of a file.
+// The tables: a command with each call of a device failing in turn, with a crash after that, and over each prefix of a
+// file.
 use crate::kept::{called_again, failure_lines, said_in};
 use crate::looks::{add, add_told};
 use crate::script::{Device, Fault};
@@ -11,13 +12,13 @@ use std::str::from_utf8;
 use std::sync::Wait;
 use std::thread::Threads;
 
-/// More calls than a device has in a command.
+/// More calls than a device gets in a command.
 const MANY: u64 = 10_000;
 
 /// What crashes leave of the bytes written since the last sync: none, all, and those at some of the places.
 const CHOICES: [u64; 3] = [0, 1, 165];
 
-/// The statuses that tell of an input and of an output that failed.
+/// The statuses that report that an input, or an output, failed.
 const INPUT_FAULT: u8 = 4;
 
 const OUTPUT_FAULT: u8 = 5;
@@ -39,7 +40,7 @@ fn is_met(ended: &MemEnded, fault: Fault) -> bool {
     }
 }
 
-/// The statuses of the command, where the first, the second and so on call of the device fails.
+/// The statuses of the command with the first, the second and so on call of the device failing.
 fn statuses<R: Threads + Wait + Sync>(
     rt: &R,
     alloc: Global,
@@ -59,7 +60,7 @@ fn statuses<R: Threads + Wait + Sync>(
     Ok(statuses)
 }
 
-/// Commands that ended alike, and how many they are.
+/// Commands that ended alike, and their number.
 #[derive(Drop)]
 struct Outcome {
     status: u8,
@@ -67,7 +68,7 @@ struct Outcome {
     times: u64,
 }
 
-/// Adds what these commands told, and how many there were.
+/// Appends what these commands printed, and their number.
 fn add_outcome(alloc: Global, page: &mut Vec<u8>, outcome: &Outcome) -> Result<(), OutOfMemory> {
     add_told(page, outcome.told.as_slice())?;
     let (status, times) = (outcome.status, outcome.times);
@@ -86,7 +87,7 @@ fn add_outcomes(
     Ok(())
 }
 
-/// Counts one more command, among the outcomes from the place on.
+/// Counts one more command, among the outcomes from this index on.
 fn count(
     outcomes: &mut Vec<Outcome>,
     from: usize,
@@ -107,7 +108,7 @@ fn count(
     Ok(())
 }
 
-/// The statuses in order, equal ones in a row together.
+/// The statuses in order; equal ones that follow each other are one row.
 fn rows(alloc: Global, statuses: &[u8]) -> Result<Vec<Outcome>, OutOfMemory> {
     let mut rows = Vec::new(alloc);
     for status in statuses {
@@ -117,8 +118,8 @@ fn rows(alloc: Global, statuses: &[u8]) -> Result<Vec<Outcome>, OutOfMemory> {
     Ok(rows)
 }
 
-/// The command over and over, each time with the next call of the device failing: how many calls there were, and the
-/// statuses.
+/// Runs the command again and again, each time with the next call of the device failing. Appends how many calls there
+/// were, and the statuses.
 pub fn add_each<R: Threads + Wait + Sync>(
     rt: &R,
     alloc: Global,
@@ -154,7 +155,7 @@ fn crashed_files(alloc: Global, ended: MemEnded, choice: u64) -> Result<Files, O
     })
 }
 
-/// What a command told, without the line of its calls, and how many failure lines there are then.
+/// What a command printed, without the line of its calls, and the number of failure lines then.
 fn told_of(alloc: Global, ended: &MemEnded) -> Result<Vec<u8>, OutOfMemory> {
     let mut told = Vec::new(alloc);
     for line in from_utf8(ended.world.out.written()).unwrap_or("").lines() {
@@ -169,7 +170,7 @@ fn told_of(alloc: Global, ended: &MemEnded) -> Result<Vec<u8>, OutOfMemory> {
     Ok(told)
 }
 
-/// A command that is stopped at the calls of a device, and the command after each stop.
+/// A command that is stopped at the calls of a device, and the command that follows each stop.
 #[derive(Clone, Copy)]
 pub struct Stops<'a> {
     pub device: Device,
@@ -177,14 +178,14 @@ pub struct Stops<'a> {
     pub then: &'a [String],
 }
 
-/// What the second command left, and how many records it called of which nothing more was to be called.
+/// What the second command left, and how many records it called that were not to be called any more.
 #[derive(Drop)]
 struct Resumed {
     ended: MemEnded,
     again: usize,
 }
 
-/// The second command, over the files that a crash left of the first one.
+/// Runs the second command over the files that a crash left of the first.
 fn go_on<R: Threads + Wait + Sync>(
     rt: &R,
     alloc: Global,
@@ -205,8 +206,8 @@ fn go_on<R: Threads + Wait + Sync>(
     Ok(Resumed { ended, again })
 }
 
-/// The first command with the call of the device failing, a crash of the choice, and the second command over the files
-/// then. `None` where there was no such call.
+/// Runs the first command with this call of the device failing, then a crash of this choice, and then the second command
+/// over the files. `None` if there was no such call.
 fn stopped<R: Threads + Wait + Sync>(
     rt: &R,
     alloc: Global,
@@ -229,8 +230,8 @@ fn stopped<R: Threads + Wait + Sync>(
     Ok(Some(go_on(rt, alloc, setting, &files, then)?))
 }
 
-/// Counts how the second command ends after each stop of the first, with crashes of the choice; how many records it called
-/// of which nothing more was to be called.
+/// Counts how the second command ends after each stop of the first, with crashes of this choice. Returns how many records
+/// it called that were not to be called any more.
 fn count_stops<R: Threads + Wait + Sync>(
     rt: &R,
     alloc: Global,
@@ -251,9 +252,9 @@ fn count_stops<R: Threads + Wait + Sync>(
     Ok(again)
 }
 
-/// The command over and over, each time with the next call of the device failing, and after each a crash and the second
-/// command: what that told but for its calls, the failure lines that there are then, and how often; and how many records
-/// it called in all of which nothing more was to be called.
+/// Runs the command again and again, each time with the next call of the device failing, then a crash and the second
+/// command. Appends what that printed without its calls, the number of failure lines then, and how often this happened;
+/// and how many records it called in all that were not to be called any more.
 pub fn add_stops<R: Threads + Wait + Sync>(
     rt: &R,
     alloc: Global,
@@ -272,7 +273,7 @@ pub fn add_stops<R: Threads + Wait + Sync>(
     add(page, line.as_str())
 }
 
-/// The files, with this one cut to its first bytes.
+/// The files, with this one cut to its first `count` bytes.
 fn cut_files(
     alloc: Global,
     files: &Files,
@@ -289,7 +290,7 @@ fn cut_files(
     Ok(cut)
 }
 
-/// Adds the number of bytes that are left of a file, and the status and the last line of the command over it.
+/// Appends how many bytes are left of a file, and the status and the last line of the command over it.
 fn add_cut(
     alloc: Global,
     page: &mut Vec<u8>,
@@ -303,7 +304,7 @@ fn add_cut(
     add(page, line.as_str())
 }
 
-/// The command over each front of the file's bytes: its status and its last line.
+/// Runs the command over each prefix of the file's bytes. Appends its status and its last line.
 pub fn add_cuts<R: Threads + Wait + Sync>(
     rt: &R,
     alloc: Global,

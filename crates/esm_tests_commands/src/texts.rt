@@ -1,8 +1,8 @@
-// Texts made of a line: its words, and numbers with zeros before them.
+// Texts of a line: its words, and numbers with leading zeros.
 use esm_model::OutOfMemory;
 use std::alloc::Global;
 
-/// Adds the words of a text, which spaces part.
+/// Appends the words of a text, which are separated by white space.
 fn add_plain(alloc: Global, words: &mut Vec<String>, text: &str) -> Result<(), OutOfMemory> {
     for word in text.split_whitespace() {
         words.push(String::from_str(alloc, word)?)?;
@@ -10,7 +10,7 @@ fn add_plain(alloc: Global, words: &mut Vec<String>, text: &str) -> Result<(), O
     Ok(())
 }
 
-/// The words of a command line: spaces part them, and what stands in single quotes is one word.
+/// Returns the words of a command line: they are separated by white space, and what is in single quotes is one word.
 pub fn words_of(alloc: Global, text: &str) -> Result<Vec<String>, OutOfMemory> {
     let mut words = Vec::new(alloc);
     let mut quoted = false;
@@ -25,7 +25,7 @@ pub fn words_of(alloc: Global, text: &str) -> Result<Vec<String>, OutOfMemory> {
     Ok(words)
 }
 
-/// The number, with zeros before it up to so many digits.
+/// Returns the number with leading zeros, with at least this many digits.
 pub fn padded(alloc: Global, number: u64, digits: usize) -> Result<String, OutOfMemory> {
     let plain = format!(in alloc; "{number}")?;
     let mut text = String::new(alloc);

@@ -1,4 +1,4 @@
-// Worlds of devices in memory, made of what an example says, and the one call of the program.
+// Worlds of devices in memory, made from what an example says, and the one call of the program.
 ghost use Rattle.std.specs.Prelude.{◌≡◌, [], length, IfOk};
 ghost use Rattle.esm_io.specs.Script.{HasNoLost};
 ghost use Rattle.esm_model.specs.declared.entry.Reply.TheVariants as Reply;
@@ -12,13 +12,13 @@ use std::alloc::Global;
 use std::sync::Wait;
 use std::thread::Threads;
 
-/// Bytes that the input gives at most in a read.
+/// How many bytes a read of the input returns at most.
 const INPUT_PIECE: usize = 65536;
 
-/// Bytes that the output takes at most in a write.
+/// How many bytes a write to the output takes at most.
 const OUTPUT_PIECE: usize = 5;
 
-/// Bytes that a connection gives and takes at most in a call.
+/// How many bytes a call of a connection reads or writes at most.
 const LINK_PIECE: usize = 7;
 
 pub type MemWorld = World<MemSource, MemSink, MemDisk, StepClock, ScriptCaller, MemDoor>;
@@ -36,7 +36,7 @@ fn fails(alloc: Global, fault: Option<Fault>, of: Device) -> Result<Vec<u64>, Ou
     Ok(numbers)
 }
 
-/// The reply of an answer.
+/// The reply with this answer.
 fn reply(alloc: Global, answer: &Answer) -> Result<Reply, OutOfMemory>
     ensures { IfOk result (λ reply. reply ≡ Reply.Lost → ⊥) }
 {
@@ -48,7 +48,7 @@ fn reply(alloc: Global, answer: &Answer) -> Result<Reply, OutOfMemory>
     })
 }
 
-/// These answers in order.
+/// A script with these answers in order.
 fn in_order(alloc: Global, answers: &[Answer]) -> Result<Script, OutOfMemory>
     ensures { IfOk result HasNoLost }
 {
@@ -71,7 +71,7 @@ fn script(alloc: Global, functions: &Functions) -> Result<Script, OutOfMemory>
     }
 }
 
-/// The caller of a batcher: the first one has the fault.
+/// The caller of a batcher; the first one has the fault.
 fn caller(
     alloc: Global,
     functions: &Functions,
@@ -109,7 +109,7 @@ fn door(alloc: Global, texts: &[String]) -> Result<MemDoor, OutOfMemory> {
     Ok(MemDoor::new(alloc, links, Vec::new(alloc)))
 }
 
-/// A disk with these bytes, where the device's call fails.
+/// A disk with these bytes; it has the fault if that is of this device.
 fn disk(
     alloc: Global,
     bytes: &[u8],
@@ -131,7 +131,7 @@ fn sink(alloc: Global, fault: Option<Fault>) -> Result<MemSink, OutOfMemory> {
     Ok(MemSink::new(alloc, OUTPUT_PIECE, fails))
 }
 
-/// The world of the setting over these files, in which the call fails.
+/// The world of the setting over these files, with this fault.
 fn world(
     alloc: Global,
     setting: &Setting,
@@ -155,7 +155,7 @@ fn world(
     })
 }
 
-/// Does what the words ask for. No other function calls the top call, so that its contract is read once.
+/// Runs the command of the words. Only this function makes the top call, so its contract is read once.
 fn enact<R: Threads + Wait + Sync>(
     rt: &R,
     alloc: Global,
@@ -168,7 +168,7 @@ fn enact<R: Threads + Wait + Sync>(
     esm(rt, alloc, words, world)
 }
 
-/// What the words leave of the setting's world over these files, in which the call fails.
+/// Returns what the command of the words leaves of the setting's world over these files, with this fault.
 pub fn enacted<R: Threads + Wait + Sync>(
     rt: &R,
     alloc: Global,

@@ -1,4 +1,4 @@
-// Tests: how the bytes of a request are read, over a link in memory.
+// Tests of reading the bytes of a request over a link in memory.
 ghost use Rattle.std.specs.Prelude.{◌<◌};
 
 use esm_api::{Served, serve_one};
@@ -18,15 +18,15 @@ const QUERY: &[u8] =
 const ELSEWHERE: &[u8] =
     b"HTTP/1.1 403 Forbidden\r\nContent-Type: application/json\r\nx-amzn-ErrorType: AccessDeniedException\r\nContent-Length: 32\r\nConnection: close\r\n\r\n{\"Type\":\"User\",\"Message\":\"host\"}";
 
-/// A request by a name that was made to lead here. Its target has a query too.
+/// A request by a name that was made to resolve to this machine. Its target also has a query.
 const BY_NAME: &[u8] =
     b"GET /2015-03-31/event-source-mappings?x=1 HTTP/1.1\r\nHost: evil.example\r\n\r\n";
 
-/// A request of a web page.
+/// A request that a web page makes.
 const BY_PAGE: &[u8] =
     b"GET /2015-03-31/event-source-mappings HTTP/1.1\r\nHost: localhost:9002\r\norigin: null\r\n\r\n";
 
-/// The answer of an empty list.
+/// The answer with an empty list.
 const NONE: &[u8] =
     b"HTTP/1.1 200 OK\r\nContent-Type: application/json\r\nContent-Length: 26\r\nConnection: close\r\n\r\n{\"EventSourceMappings\":[]}";
 
@@ -36,7 +36,7 @@ fn fresh(alloc: Global) -> Result<Registry<MemDisk>, Fail> {
     Ok(Registry::open(alloc, journal).ok().ok_or("registry")?)
 }
 
-/// A link that gives the request in pieces, and whose calls with these numbers fail.
+/// A link that gives the request in pieces of this length; its calls with these numbers fail.
 fn link(alloc: Global, request: &[u8], piece: usize, fails: &[u64]) -> Result<MemLink, AllocError>
     requires { 0 < piece }
 {
@@ -45,7 +45,8 @@ fn link(alloc: Global, request: &[u8], piece: usize, fails: &[u64]) -> Result<Me
     Ok(MemLink::new(alloc, bytes, piece, fails))
 }
 
-/// What comes of a request in pieces over a link whose calls with these numbers fail, and what is written.
+/// Serves a request that arrives in pieces of this length, over a link whose calls with these numbers fail. Returns the
+/// outcome, and what was written.
 fn exchange(
     alloc: Global,
     registry: &mut Registry<MemDisk>,
@@ -63,7 +64,7 @@ fn exchange(
     Ok((served, Vec::from_slice(alloc, link.written())?))
 }
 
-/// Whether this comes of a request in pieces, and is written.
+/// Whether serving a request in pieces of this length has this outcome and writes this.
 fn is_served(
     alloc: Global,
     registry: &mut Registry<MemDisk>,
@@ -77,7 +78,7 @@ fn is_served(
     Ok(served == expected.0 && written.as_slice() == expected.1)
 }
 
-/// The length of the first pieces in which a target with a query is served otherwise.
+/// The first length of pieces with which a target with a query is served differently.
 fn first_other_piece(
     alloc: Global,
     registry: &mut Registry<MemDisk>,
@@ -118,7 +119,7 @@ fn a_request_from_elsewhere(rt: HostRuntime) -> Result<(), Fail> {
     Ok(())
 }
 
-/// Whether a fresh registry's list is one read and one write; the link would fail at the next call.
+/// Whether the list of a fresh registry takes one read and one write; the link would fail at the next call.
 fn is_list_read_once(alloc: Global) -> Result<bool, Fail> {
     let list = b"GET /2015-03-31/event-source-mappings HTTP/1.1\r\n\r\n";
     let mut registry = fresh(alloc)?;

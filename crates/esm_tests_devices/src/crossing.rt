@@ -1,4 +1,4 @@
-// Tests: the forms of the devices may move between threads, and their clocks may be shared.
+// Tests that the devices may move between threads, and that their clocks may be shared.
 use esm_host::{FileDisk, FileSource, HostClock, StdinSource, StdoutSink, TcpDoor, TcpLink};
 use esm_io::{MemDest, MemDisk, MemDoor, MemLink, MemSink, MemSource, ScriptCaller, StepClock};
 
@@ -6,7 +6,7 @@ fn crosses<T: Send>() {}
 
 fn is_shared<T: Sync>() {}
 
-/// The forms move between threads, and a clock is shared by them.
+/// The devices move between threads, and threads share a clock.
 pub fn forms_cross() {
     crosses::<MemSource>();
     crosses::<MemSink>();

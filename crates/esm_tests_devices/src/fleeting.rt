@@ -1,15 +1,15 @@
-// The disk that stands for no file: what it keeps of what is written, and what it forgets.
+// Tests of the disk that has no file: which of the bytes written it keeps, and which it forgets.
 use esm_host::FleetingDisk;
 use esm_io::{Disk, Failed};
 
-/// The two bytes from a place on.
+/// The two bytes at this place.
 fn two_at(disk: &mut FleetingDisk, place: u64) -> Result<[u8; 2], Failed> {
     let mut into = [0; 2];
     disk.read(place, &mut into)?;
     Ok(into)
 }
 
-/// Whether a disk of twenty bytes gives the first eighteen, and tells of twenty.
+/// Whether a disk of twenty bytes gives the first eighteen, and reports a length of twenty.
 fn keeps_the_first(disk: &mut FleetingDisk) -> bool {
     disk.write_at(0, &[7; 17]) == Ok(())
         && disk.write_at(17, &[1, 2, 3]) == Ok(())

@@ -1,4 +1,4 @@
-// The worked examples of a call, by what a link in memory gives.
+// The worked examples of a call, with the responses that a link in memory gives.
 ghost use Rattle.std.specs.Prelude.{◌<◌, ◌≤◌};
 
 use esm_invoke::{HttpCaller, invoke};
@@ -12,7 +12,7 @@ use std::test::Fail;
 use std::time::Duration;
 use std::{io, thread};
 
-/// What a reply comes to; an answer by its status and error, and a garbled one by the number of bytes that were read.
+/// The outcome of a call: an answer by its status and error, a garbled response by the number of bytes that were read.
 #[derive(Clone, Copy, Debug, PartialEq, Eq)]
 enum Outcome {
     Answered(u16, bool),
@@ -23,7 +23,7 @@ enum Outcome {
 
 use Outcome::{Answered, Garbled, Lost};
 
-/// A link that gives the response in pieces, and whose calls with these numbers fail.
+/// A link that gives the response in pieces of this length; its calls with these numbers fail.
 fn link(alloc: Global, response: &[u8], piece: usize, fails: &[u64]) -> Result<MemLink, AllocError>
     requires { 0 < piece }
 {
@@ -32,7 +32,7 @@ fn link(alloc: Global, response: &[u8], piece: usize, fails: &[u64]) -> Result<M
     Ok(MemLink::new(alloc, bytes, piece, fails))
 }
 
-/// The reply to such a response, with what the work area holds already.
+/// The reply to this response, with what the work area already has.
 fn reply_in(
     alloc: Global,
     response: &[u8],
@@ -73,7 +73,7 @@ fn outcome_of(alloc: Global, response: &[u8], piece: usize, fails: &[u64]) -> Ou
     judged(&reply_to(alloc, response, piece, fails))
 }
 
-/// Such a response is answered with this status, error and body.
+/// Whether the response is answered with this status, error and body.
 fn answers(alloc: Global, response: &[u8], status: u16, error: bool, body: &[u8]) -> bool {
     match reply_to(alloc, response, 1, &[]) {
         Ok(
@@ -87,7 +87,7 @@ fn answers(alloc: Global, response: &[u8], status: u16, error: bool, body: &[u8]
     }
 }
 
-/// Such a response is garbled, and the first so many bytes of it were read.
+/// Whether the response is garbled, and its first `count` bytes were read.
 fn is_garbled(alloc: Global, response: &[u8], count: usize) -> bool {
     match reply_to(alloc, response, 1, &[]) {
         Ok(Reply::Garbled { bytes }) => bytes.as_slice().len() == count
@@ -98,8 +98,8 @@ fn is_garbled(alloc: Global, response: &[u8], count: usize) -> bool {
 
 const TWO_BYTES: &[u8] = b"HTTP/1.1 200 OK\r\nContent-Length: 2\r\n\r\n{}";
 
-/// Responses, the status, the error and the body of their answers: `reply-read`, `chunked-reply`, `error-header`, and
-/// one with two lengths.
+/// Responses, with the status, the error and the body of their answers: `reply-read`, `chunked-reply`, `error-header`,
+/// and one with two lengths.
 const ANSWERED: [(&[u8], u16, bool, &[u8]); 4] = [
     (TWO_BYTES, 200, false, b"{}"),
     (
@@ -122,7 +122,7 @@ const ANSWERED: [(&[u8], u16, bool, &[u8]); 4] = [
     ),
 ];
 
-/// Responses that are garbled, and how many bytes of each are read: `cut-reply`, and codings that are none.
+/// Responses that are garbled, and how many bytes of each are read: `cut-reply`, and codings that are not valid.
 const GARBLED: [(&[u8], usize); 4] = [
     (b"HTTP/1.1 2", 10),
     (b"HTTP/1.1 200 OK\r\nContent-Length: 3\r\n\r\n{}", 40),
@@ -152,14 +152,14 @@ fn garbled_responses(rt: HostRuntime) {
 
 const UP_TO_THE_END: &[u8] = b"HTTP/1.1 200 OK\r\n\r\n{}";
 
-/// Responses of links that give and take 100 bytes a call, so that a request is two writes and a response one read, with
-/// the numbers of the calls that fail.
+/// Responses of links that give and take 100 bytes a call, so a request takes two writes and a response one read; the
+/// numbers of the calls that fail; and the outcome.
 const FAILING: [(&[u8], &[u64], Outcome); 13] = [
-    // The request is sent whole: a read that fails, and one that is not made.
+    // The request is sent whole; a read fails, or the call that would fail is not made.
     (TWO_BYTES, &[2], Lost),
     (UP_TO_THE_END, &[3], Lost),
     (TWO_BYTES, &[3], Answered(200, false)),
-    // A write fails, and a response lies ready whose own length shows that it is whole.
+    // A write fails, and a response is already there whose own length shows that it is whole.
     (TWO_BYTES, &[0], Answered(200, false)),
     (TWO_BYTES, &[1], Answered(200, false)),
     (
@@ -172,7 +172,7 @@ const FAILING: [(&[u8], &[u64], Outcome); 13] = [
         &[1],
         Answered(429, false),
     ),
-    // A write fails, and a read too.
+    // A write fails, and a read fails too.
     (TWO_BYTES, &[1, 2], Lost),
     // A write fails, and only the link's end could end the response, which may be cut off there.
     (UP_TO_THE_END, &[1], Lost),
@@ -184,7 +184,7 @@ const FAILING: [(&[u8], &[u64], Outcome); 13] = [
     ),
     (b"HTTP/1.1 2", &[1], Lost),
     (b"", &[1], Lost),
-    // A write fails, and what came is no response.
+    // A write fails, and what arrived is not a response.
     (b"HTTP/9 what?\r\n\r\n", &[1], Lost),
 ];
 
@@ -195,7 +195,7 @@ fn links_that_fail(rt: HostRuntime) {
     }
 }
 
-/// What a response comes to, and how large its work area then is.
+/// The outcome of a response, and the capacity of its work area then.
 fn work_area(alloc: Global) -> (Outcome, usize) {
     let mut buffer = Vec::new(alloc);
     let outcome = judged(&reply_in(alloc, TWO_BYTES, 4_096, &[], &mut buffer));
@@ -209,7 +209,7 @@ fn small_work_area(rt: HostRuntime) {
     assert!(rt; capacity < 16_384);
 }
 
-/// Whether the reply to a head that is cut has the bytes of that head, where a whole response stands in the work area.
+/// Whether the reply to a cut head has the bytes of that head, although the work area has a whole response from before.
 fn is_area_cleared(alloc: Global) -> Result<bool, OutOfMemory> {
     let head = b"HTTP/1.1 200 OK\r\n".as_slice();
     let mut buffer = Vec::from_slice(alloc, TWO_BYTES)?;
@@ -225,7 +225,7 @@ fn work_area_of_another_call(rt: HostRuntime) -> Result<(), Fail> {
     Ok(())
 }
 
-/// A response without a body whose head has so many bytes.
+/// A response without a body whose head has `len` bytes.
 fn long_head(alloc: Global, len: usize) -> Result<Vec<u8>, AllocError>
     requires low { 24 ≤ len }
     requires high { len ≤ 20000 }
@@ -238,7 +238,7 @@ fn long_head(alloc: Global, len: usize) -> Result<Vec<u8>, AllocError>
     Ok(text)
 }
 
-/// Whether a response whose head has so many bytes is answered.
+/// Whether a response whose head has `len` bytes is answered.
 fn is_head_answered(alloc: Global, len: usize) -> Result<bool, AllocError>
     requires low { 24 ≤ len }
     requires high { len ≤ 20000 }
@@ -247,7 +247,7 @@ fn is_head_answered(alloc: Global, len: usize) -> Result<bool, AllocError>
     Ok(answers(alloc, response.as_slice(), 200, false, b""))
 }
 
-/// Whether it is garbled once so many bytes were read.
+/// Whether it is garbled after `count` bytes were read.
 fn is_head_garbled(alloc: Global, len: usize, count: usize) -> Result<bool, AllocError>
     requires low { 24 ≤ len }
     requires high { len ≤ 20000 }
@@ -263,7 +263,7 @@ fn hostile_head(rt: HostRuntime) -> Result<(), Fail> {
     Ok(())
 }
 
-/// Whether the request is written, and garbled where nothing is answered.
+/// Whether the request is written, and the reply is garbled if nothing is answered.
 fn is_requested(alloc: Global) -> bool {
     let mut link = MemLink::new(alloc, Vec::new(alloc), 4_096, Vec::new(alloc));
     let reply = invoke(alloc, &mut link, "f", b"{}", &mut Vec::new(alloc));
@@ -279,7 +279,7 @@ fn request_bytes(rt: HostRuntime) {
 const REQUEST: &[u8] =
     b"POST /2015-03-31/functions/f/invocations HTTP/1.1\r\nHost: 127.0.0.1\r\nContent-Type: application/json\r\nContent-Length: 2\r\nConnection: close\r\n\r\n{}";
 
-/// Takes one connection and answers it; whether it brought the request.
+/// Accepts one connection and answers it. Returns whether it brought the request.
 fn serve_once(listener: &TcpListener) -> io::Result<bool> {
     let (mut stream, _) = listener.accept()?;
     let mut request = [0; 142];
@@ -288,13 +288,13 @@ fn serve_once(listener: &TcpListener) -> io::Result<bool> {
     Ok(request.as_slice() == REQUEST)
 }
 
-/// Takes one connection, answers before it has read anything, and closes it.
+/// Accepts one connection, answers before it has read anything, and closes it.
 fn refuse_once(listener: &TcpListener) -> io::Result<()> {
     let (mut stream, _) = listener.accept()?;
     stream.write_all(b"HTTP/1.1 429 Slow\r\nContent-Length: 0\r\n\r\n")
 }
 
-/// What a call on the port with the event comes to.
+/// The outcome of a call on the port with this event.
 fn called<R: Net + Clock + Clone>(
     rt: &R,
     alloc: Global,
@@ -315,7 +315,7 @@ fn http_caller_against_a_listener(rt: HostRuntime) -> Result<(), Fail> {
     Ok(())
 }
 
-/// An event that does not fit into what the system holds between two ends of a connection.
+/// An event that does not fit into what the system buffers between the two ends of a connection.
 fn large_event(alloc: Global) -> Result<Vec<u8>, AllocError> {
     let mut event = Vec::new(alloc);
     event.resize(6_000_000, b' ')?;
@@ -336,7 +336,7 @@ fn http_caller_answered_early(rt: HostRuntime) -> Result<(), Fail> {
     Ok(())
 }
 
-/// The limit of time of a call holds where a function takes the connection and says nothing.
+/// A call's limit of time is kept if a function accepts the connection and sends nothing.
 #[test]
 fn http_caller_of_a_silent_function(rt: HostRuntime) -> Result<(), Fail> {
     let listener = TcpListener::bind(&rt, "127.0.0.1:0")?;

@@ -1,4 +1,5 @@
-// Tests: what is left of a journal after a disk failed while it was written and a crash, and payloads that are refused.
+// Tests of what is left of a journal after a disk failed while it was written and a crash, and of payloads that are
+// refused.
 ghost use Rattle.std.specs.Prelude.{◌≡◌, false, IfOk};
 
 use esm_fixtures::{NO_LINES, blank, disk};
@@ -11,7 +12,7 @@ use std::test::Fail;
 /// A journal's payload.
 const PAYLOAD: [u8; 29] = *b"\x01\0\0\0\0\0\0\0\0\x01\0\0\0\0\0\0\0\0\0\0\0\0\x01\0\0\0\0\x011";
 
-/// A fresh journal; the calls of its disk with these numbers fail.
+/// A fresh journal; the calls of its disk with these numbers, counted from 0, fail.
 fn fresh(alloc: Global, fails: &[u64]) -> Result<Journal<MemDisk>, Fail> {
     let empty = disk(alloc, &[], fails)?;
     Ok(Journal::init(alloc, empty)?)
@@ -25,7 +26,7 @@ fn opened(alloc: Global) -> Result<Journal<MemDisk>, Fail>
     Ok(Journal::open(alloc, file)?)
 }
 
-/// The disk of a journal whose `k`-th call failed while a payload was added.
+/// The disk of a journal after its call number `k` failed while a payload was added.
 fn stopped(alloc: Global, k: u64) -> Result<MemDisk, Fail> {
     let mut journal = fresh(alloc, &[k])?;
     match journal.append(alloc, &PAYLOAD) {
@@ -34,7 +35,7 @@ fn stopped(alloc: Global, k: u64) -> Result<MemDisk, Fail> {
     }
 }
 
-/// How many payloads the journal then has after a crash.
+/// How many payloads the journal has after a crash of this choice.
 fn left_after(alloc: Global, k: u64, choice: u64) -> Result<usize, Fail> {
     let disk = stopped(alloc, k)?;
     let disk = disk.crash(alloc, choice)?;
@@ -49,7 +50,7 @@ fn all_left_after(alloc: Global, k: u64) -> Result<[usize; 3], Fail> {
     Ok([none, first, some])
 }
 
-/// The calls of `append` are the disk's calls 6 to 9: a write, a sync, the gate's write, a sync.
+/// `append` makes the disk's calls 6 to 9: a write, a sync, the gate's write, a sync.
 #[test]
 fn append_stopped(rt: HostRuntime) -> Result<(), Fail> {
     for k in 6..9 {
@@ -66,7 +67,7 @@ fn long_added(alloc: Global) -> Result<Option<AppendError>, Fail> {
     Ok(journal.append(alloc, &long).err())
 }
 
-/// The answer where a blank file is to be made of one that is.
+/// The error if a blank file is made of one that is already blank.
 fn blank_again(alloc: Global) -> Result<Option<InitError>, Fail> {
     match Journal::blank(blank(alloc)?) {
         Ok(_) => Ok(None),
@@ -84,7 +85,7 @@ fn payload_bytes(rt: HostRuntime) -> Result<(), Fail> {
     Ok(())
 }
 
-/// A pair of one payload, in the epoch 2; the `k`-th call of its spare disk fails.
+/// A pair with one payload, in epoch 2; call number `k` of its spare disk fails.
 fn used_pair(alloc: Global, k: u64) -> Result<Pair<MemDisk>, Fail>
     ensures { IfOk result (λ pair. pair.epoch ≡ 2) }
 {
@@ -107,7 +108,7 @@ fn list_of_two(alloc: Global) -> Result<[Bytes; 2], OutOfMemory> {
     Ok([first, second])
 }
 
-/// The disks of this pair after a list of two payloads was to be written.
+/// The disks of this pair after writing a list of two payloads failed.
 fn list_stopped(alloc: Global, k: u64) -> Result<(MemDisk, MemDisk), Fail> {
     let list = list_of_two(alloc)?;
     let mut pair = used_pair(alloc, k)?;
@@ -117,7 +118,7 @@ fn list_stopped(alloc: Global, k: u64) -> Result<(MemDisk, MemDisk), Fail> {
     }
 }
 
-/// How many payloads the pair then has after a crash of the spare disk.
+/// How many payloads the pair has after a crash of the spare disk.
 fn left_of_list(alloc: Global, k: u64, choice: u64) -> Result<usize, Fail> {
     let (used, spare) = list_stopped(alloc, k)?;
     let spare = spare.crash(alloc, choice)?;
@@ -132,8 +133,7 @@ fn all_left_of_list(alloc: Global, k: u64) -> Result<[usize; 3], Fail> {
     Ok([none, first, some])
 }
 
-/// The calls of `rewrite` are the spare disk's calls 3 to 9: the old seal, a sync, the head, the list, a sync, the new
-/// seal, a sync.
+/// `rewrite` makes the spare disk's calls 3 to 9: the old seal, a sync, the head, the list, a sync, the new seal, a sync.
 #[test]
 fn rewrite_stopped(rt: HostRuntime) -> Result<(), Fail> {
     for k in 3..9 {

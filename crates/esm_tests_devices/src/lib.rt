@@ -1,5 +1,5 @@
-//! Worked examples over devices: the forms in memory and the real ones, journals that are stopped, calls of functions and
-//! requests. The crate has nothing but these tests, so that each crate that they call is proved once.
+//! Worked examples over devices: those in memory and the real ones, journals that are stopped, calls of functions, and
+//! requests. The crate has only these tests, so each crate that they call is proved once.
 #![tactic(auto)]
 
 #[cfg(test)]

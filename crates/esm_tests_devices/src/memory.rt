@@ -1,4 +1,4 @@
-// One happy path for each form, a call that fails in mid-stream, and crashes by choice.
+// Tests of the devices in memory: a happy path for each, a call that fails in mid-stream, and crashes of each choice.
 ghost use Rattle.std.specs.Prelude.{◌≡◌, false};
 
 use esm_io::put_byte::put_byte;
@@ -9,7 +9,7 @@ use esm_io::{
 use std::alloc::{AllocError, Global};
 use std::test::Fail;
 
-/// What was answered; 9 is a call that failed.
+/// The count that was returned, or 9 for a call that failed.
 fn counted(answer: Result<usize, Failed>) -> usize {
     match answer {
         Ok(count) => count,
@@ -17,7 +17,7 @@ fn counted(answer: Result<usize, Failed>) -> usize {
     }
 }
 
-/// What four reads answer of which the second fails, and what they read.
+/// What four reads return, the second of which fails, and what they read.
 fn read_four(alloc: Global) -> Result<([usize; 4], [u8; 4]), AllocError> {
     let bytes = [1, 2, 3].to_vec(alloc)?;
     let fails = [1].to_vec(alloc)?;
@@ -38,7 +38,7 @@ fn source_fails_in_mid_stream(rt: HostRuntime) -> Result<(), Fail> {
     Ok(())
 }
 
-/// What three writes answer of which the second fails, and whether 1, 2 and 3 were written.
+/// What three writes return, the second of which fails, and whether 1, 2 and 3 were written.
 fn write_three(alloc: Global) -> Result<([usize; 3], bool), AllocError> {
     let mut sink = MemSink::new(alloc, 2, [1].to_vec(alloc)?);
     let counts = [
@@ -62,15 +62,15 @@ fn clock_steps(rt: HostRuntime) {
     assert_eq!(rt; moments, [5, 9, 9, 9]);
 }
 
-/// Whether a crash leaves these of the bytes 1 to 4, all synced, over which 7, 8 and 9 were written from the last of
-/// them on.
+/// Whether a crash leaves these bytes: 1 to 4 were synced, and then 7, 8 and 9 were written from the place of the last
+/// one on.
 fn is_left(alloc: Global, choice: u64, left: &[u8]) -> Result<bool, Fail> {
     let mut disk = MemDisk::new(alloc, [1, 2, 3, 4].to_vec(alloc)?, Vec::new(alloc));
     disk.write_at(3, &[7, 8, 9])?;
     Ok(disk.crash(alloc, choice)?.bytes() == left)
 }
 
-// 165 has the bits 0, 2, 5 and 7: of the places 3, 4 and 5 only the last has arrived.
+// 165 has the bits 0, 2, 5 and 7: of the places 3, 4 and 5, only the last one has arrived.
 #[test]
 fn crash_leaves_what_has_arrived(rt: HostRuntime) -> Result<(), Fail> {
     assert!(rt; is_left(rt.alloc(), 0, &[1, 2, 3, 4])?);
@@ -79,7 +79,7 @@ fn crash_leaves_what_has_arrived(rt: HostRuntime) -> Result<(), Fail> {
     Ok(())
 }
 
-/// Whether a byte is put into a disk of three, and how many calls that and its length are.
+/// Whether a byte is put into a disk of three, and how many calls that and asking for the length take.
 fn put_one(alloc: Global) -> Result<(bool, u64), AllocError> {
     let mut disk = MemDisk::new(alloc, [1, 2, 3].to_vec(alloc)?, Vec::new(alloc));
     let is_put = put_byte(&mut disk, 1, 9).is_ok() && disk.len() == Ok(3);
@@ -92,7 +92,7 @@ fn disk_puts_a_byte_and_counts_its_calls(rt: HostRuntime) -> Result<(), Fail> {
     Ok(())
 }
 
-/// A door with one connection, on which 1 and 2 are to be read.
+/// A door with one connection, which gives 1 and 2.
 fn door_of_one(alloc: Global) -> Result<MemDoor, AllocError> {
     let link = MemLink::new(alloc, [1, 2].to_vec(alloc)?, 9, Vec::new(alloc));
     let mut links = Vec::new(alloc);
@@ -100,7 +100,7 @@ fn door_of_one(alloc: Global) -> Result<MemDoor, AllocError> {
     Ok(MemDoor::new(alloc, links, Vec::new(alloc)))
 }
 
-/// Reads on the next connection, writes 3, and closes it. Tells what the two calls answered.
+/// Reads on the next connection, writes 3, and closes it. Returns what the two calls returned.
 fn serve(door: &mut MemDoor, alloc: Global) -> Result<[usize; 2], Failed> {
     let mut link = door.accept()?;
     let counts = [counted(link.read(&mut [0; 4])), counted(link.write(&[3]))];
@@ -110,7 +110,7 @@ fn serve(door: &mut MemDoor, alloc: Global) -> Result<[usize; 2], Failed> {
     }
 }
 
-/// What two connections give where the door has one, and how many the door keeps.
+/// What serving two connections returns if the door has one, which the door then keeps.
 fn serve_two(alloc: Global) -> Result<[Result<[usize; 2], Failed>; 2], AllocError> {
     let mut door = door_of_one(alloc)?;
     let first = serve(&mut door, alloc);
@@ -125,7 +125,7 @@ fn door_gives_a_link_and_keeps_it(rt: HostRuntime) -> Result<(), Fail> {
     Ok(())
 }
 
-/// Delivers two lines, the first in room that was made for it.
+/// Delivers two lines, the first within reserved room.
 fn deliver_two(dest: &mut MemDest, alloc: Global) -> Result<(), DestError>
     requires { dest.old.failed ≡ false }
 {

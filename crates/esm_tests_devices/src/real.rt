@@ -1,4 +1,5 @@
-// The real forms over a real file and a real connection. Standard input and output have none: a test's are not its own.
+// Tests of the real devices over a real file and a real connection. Standard input and output have no test: those of a
+// test are not its own.
 
 use esm_host::{FileDisk, FileSource, NoConnection, TcpDoor, TcpLink};
 use esm_io::{Disk, Door, Failed, Link, Source};
@@ -11,7 +12,7 @@ use std::rt::{Clock, Env, Files};
 use std::time::Duration;
 use std::{env, fs, process, thread};
 
-/// A path among the temporary files that no other process of tests has.
+/// A path among the temporary files that no other test process uses.
 fn temporary<R: Env + AllocGlobal + Abort>(rt: &R, process: Process, name: &str) -> String {
     let folder = env::temp_dir(rt).expect(rt, "a folder");
     let id = process::id(process);
@@ -69,7 +70,7 @@ fn free_port<R: Net + Abort>(rt: &R) -> u16 {
     listener.local_addr().expect(rt, "its address").port()
 }
 
-/// Reads a byte on the next connection, and sends it back.
+/// Reads a byte on the next connection and sends it back.
 fn echo<R: Net + Clock + Clone + AllocGlobal>(rt: &R, port: u16) -> Option<u8> {
     let mut door = TcpDoor::new(rt, port).ok()?;
     let mut link = door.accept().ok()?;
@@ -111,8 +112,8 @@ fn a_port_where_nobody_listens_is_refused(rt: HostRuntime) {
     assert!(rt; link.read(&mut [0]) == Err(Failed));
 }
 
-/// Whether the next connection gives a byte and is then a fault, also at a byte that its peer sends afterwards, where all
-/// its reads together have a quarter of a second.
+/// Whether the next connection gives a byte and then only faults, even when its peer sends a byte later; all its reads
+/// together have a quarter of a second.
 fn hear_one<R: Net + Clock + Clone>(
     rt: &R,
     listener: &R::Listener,

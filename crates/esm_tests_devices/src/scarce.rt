@@ -1,4 +1,4 @@
-// A caller over HTTP on a host that has no port, descriptor or buffer for it.
+// A test of a caller over HTTP on a host that has no free port.
 
 use esm_invoke::HttpCaller;
 use esm_io::Caller;
@@ -10,14 +10,14 @@ use std::net::{Net, SocketAddr, TcpListener, TcpStream};
 use std::test::Fail;
 use std::time::{Clock, Duration};
 
-/// No local port is free.
+/// The error code: no local port is free.
 const EADDRNOTAVAIL: i32 = 99;
 
-/// Nobody listens at the port.
+/// The error code: nobody listens at the port.
 const ECONNREFUSED: i32 = 111;
 
-/// A host where the first `wants` connections find no port and the others nobody who listens, and whose clock goes on
-/// by what is slept alone.
+/// A host whose first `wants` connections find no free port, and whose others find nobody who listens. Its clock advances
+/// only while it sleeps.
 #[derive(Drop)]
 struct Scarce<'a> {
     wants: u32,
@@ -73,7 +73,7 @@ impl<'a> Clock for Scarce<'a> {
     }
 }
 
-/// Whether a call is lost where so many connections find no port; how often it tried then, and how many milliseconds it
+/// Whether a call is lost if its first `wants` connections find no port; how often it tried, and how many milliseconds it
 /// slept.
 fn lost(alloc: Global, wants: u32) -> Result<(bool, u32, u128), OutOfMemory> {
     let tries = Cell::new(0);
@@ -92,8 +92,8 @@ fn lost(alloc: Global, wants: u32) -> Result<(bool, u32, u128), OutOfMemory> {
     ))
 }
 
-/// For want of a port a caller pauses 10, 20, 40 .. milliseconds, then a second each time, and gives up within a
-/// minute. A connection that is refused is lost at once.
+/// If no port is free, a caller pauses 10, 20, 40 .. milliseconds, then a second each time, and gives up within a minute.
+/// A connection that is refused is lost at once.
 #[test]
 fn want_of_a_port(rt: HostRuntime) -> Result<(), Fail> {
     assert_eq!(rt; lost(rt.alloc(), 0)?, (true, 1, 0));

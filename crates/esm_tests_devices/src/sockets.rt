@@ -1,4 +1,5 @@
-// Sockets that a link does not take: one that the system has connected to itself, and one at a standard stream.
+// Tests of sockets that a link does not accept: one that the system connected to itself, and one with the descriptor of a
+// standard stream.
 
 use esm_host::{NoConnection, TcpLink};
 use esm_model::OutOfMemory;
@@ -45,7 +46,7 @@ impl AsRawFd for Silent {
     }
 }
 
-/// A listener that takes nothing.
+/// A listener that accepts nothing.
 #[derive(Drop)]
 struct Deaf {
     descriptor: RawFd,
@@ -65,7 +66,7 @@ impl AsRawFd for Deaf {
     }
 }
 
-/// A host each of whose connections has this local port and this descriptor.
+/// A host whose connections all have this local port and this descriptor.
 #[derive(Drop)]
 struct Strange {
     port: u16,
@@ -114,7 +115,7 @@ impl Clock for Strange {
     }
 }
 
-/// What connecting to port 5 comes to where the connection has this local port and this descriptor.
+/// The result of connecting to port 5 if the connection has this local port and this descriptor.
 fn connected(port: u16, descriptor: RawFd) -> Result<Result<(), NoConnection>, OutOfMemory> {
     let host = Strange { port, descriptor };
     let mut link = TcpLink::new(&host, 5, Duration::from_secs(1))?;

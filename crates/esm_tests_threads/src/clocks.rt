@@ -1,4 +1,4 @@
-// A clock that moves on at each reading.
+// A test of the delays between calls, by a clock that advances at each reading.
 ghost use Rattle.std.specs.Prelude.{◌≡◌, length, true, IfOk};
 
 use crate::worlds::told_over;
@@ -8,7 +8,7 @@ use std::alloc::Global;
 use std::sync::atomic::{AtomicU64, Ordering};
 use std::test::Fail;
 
-/// A clock that moves on by a millisecond at each reading; `pause` raises it.
+/// A clock that advances by a millisecond at each reading; `pause` raises it.
 #[derive(Drop)]
 struct TickClock {
     moment: AtomicU64,
@@ -26,7 +26,7 @@ impl Clock for TickClock {
     }
 }
 
-/// Callers of a function that always answers, with its own error or without.
+/// Returns callers of a function that always answers, with or without the function error.
 pub fn callers(alloc: Global, error: bool) -> Result<Vec<ScriptCaller>, OutOfMemory>
     ensures { IfOk result (λ callers. length callers.items ≡ 64) }
 {
@@ -48,7 +48,7 @@ const STREAM: &str =
 const RECORD: &[u8] =
     b"{\"shardId\":\"shardId-000000000000\",\"sequenceNumber\":\"1\",\"partitionKey\":\"1\",\"data\":\"SGVsbG8=\",\"approximateArrivalTimestamp\":0}\n";
 
-/// The moments at which calls begin and end, in turn.
+/// The moments at which calls begin and end, alternating.
 fn moments(alloc: Global, trace: &[Entry]) -> Result<Vec<u64>, OutOfMemory> {
     let mut moments = Vec::new(alloc);
     for entry in trace {
@@ -60,7 +60,7 @@ fn moments(alloc: Global, trace: &[Entry]) -> Result<Vec<u64>, OutOfMemory> {
     Ok(moments)
 }
 
-/// Each call ends after it began, and the delay of 250 and of 500 milliseconds before the next one counts from its end.
+/// Each call ends after it began, and the delays of 250 and of 500 milliseconds count from the end of the call before.
 #[test]
 fn delays_from_the_end(rt: HostRuntime) -> Result<(), Fail> {
     let alloc = rt.alloc();

@@ -1,4 +1,4 @@
-// Functions that wait: for another call, for a while, or for all others.
+// Functions that wait: for another call, for some time, or for all other calls.
 ghost use Rattle.std.specs.Prelude.{◌≡◌, None};
 
 use esm_io::Caller;
@@ -9,10 +9,10 @@ use std::sync::atomic::{AtomicBool, AtomicU32, Ordering};
 use std::thread;
 use std::time::{Clock, Duration};
 
-/// How often a call looks for what it waits for before it gives up.
+/// How often a call checks for what it waits for before it gives up.
 const LIMIT: u32 = 1_000_000_000;
 
-/// Status 200 with no body, with the function error or without.
+/// Status 200 with no body, with or without the function error.
 fn reply(alloc: Global, error: bool) -> Reply
     ensures { result ≡ Reply.Lost → ⊥ }
 {
@@ -23,7 +23,7 @@ fn reply(alloc: Global, error: bool) -> Reply
     }
 }
 
-/// Whether the number of calls came to this before the limit.
+/// Whether the count reached this number before the limit.
 fn come_to(count: &AtomicU32, number: u32) -> bool {
     for _ in 0..LIMIT {
         if count.load(Ordering::SeqCst) >= number {
@@ -34,7 +34,7 @@ fn come_to(count: &AtomicU32, number: u32) -> bool {
     false
 }
 
-/// What calls share: how many began whose event has the first text, and how many of the others; and whether one gave up.
+/// What calls share: how many began with an event that has `text`, how many began without it, and whether one gave up.
 #[derive(Drop)]
 pub struct Gate {
     pub text: &'static str,
@@ -54,8 +54,8 @@ impl Gate {
     }
 }
 
-/// Calls a function that is at a gate: a call with the text answers once so many without it have begun, and one without it
-/// once so many with it have.
+/// Calls a function at a gate: a call with the text answers once `wants_without` calls without it have begun, and one
+/// without it once `wants_with` calls with it have begun.
 #[derive(Drop)]
 pub struct GateCaller<'a> {
     pub gate: &'a Gate,
@@ -86,14 +86,14 @@ impl Caller for GateCaller<'_> {
     }
 }
 
-/// What slow calls share: how many run, and how many did at most.
+/// What slow calls share: how many are running, and the most that ran at once.
 #[derive(Drop)]
 pub struct Running {
     pub now: AtomicU32,
     pub most: AtomicU32,
 }
 
-/// Calls a function that takes so many milliseconds and succeeds.
+/// Calls a function that takes `takes_ms` milliseconds and succeeds.
 #[derive(Drop)]
 pub struct SlowCaller<'a, R> {
     pub rt: &'a R,

@@ -1,4 +1,4 @@
-// Calls that wait for one another: each of two until the other has begun, and one until all others have.
+// Tests of calls that wait for each other: two until the other has begun, and one until all others have begun.
 ghost use Rattle.std.specs.Prelude.{◌≡◌, length, IfOk};
 
 use crate::functions::{Gate, GateCaller};
@@ -92,8 +92,8 @@ fn add_line(alloc: Global, input: &mut Vec<u8>, seq: u32, key: &str) -> Result<(
     Ok(())
 }
 
-/// The first record of one lane is answered last of all: the nine records of the other lane, in batches of one, are not held
-/// up by it.
+/// The first record of one lane is answered last of all: it does not hold up the nine records of the other lane, which
+/// are in batches of one.
 #[test]
 fn last_of_all(rt: HostRuntime) -> Result<(), Fail> {
     let alloc = rt.alloc();

@@ -1,4 +1,4 @@
-// Many lanes, whose functions take their time.
+// A test of many lanes with functions that take their time.
 ghost use Rattle.std.specs.Prelude.{◌≡◌, length, IfOk};
 
 use crate::functions::{Running, SlowCaller};
@@ -32,7 +32,7 @@ fn callers<'a, R: Clock>(
 const STREAM: &str =
     r#"{"EventSourceArn":"arn:aws:kinesis:us-east-1:123456789012:stream/s","FunctionName":"f","StartingPosition":"TRIM_HORIZON","ParallelizationFactor":4,"BatchSize":1}"#;
 
-/// Sixteen records for each of sixteen shards, each with a key of its own.
+/// Sixteen records for each of sixteen shards, each with a key of its own in its shard.
 fn input(alloc: Global) -> Result<Vec<u8>, Fail> {
     let mut input = Vec::new(alloc);
     for place in 0..16u32 {
@@ -46,7 +46,7 @@ fn input(alloc: Global) -> Result<Vec<u8>, Fail> {
     Ok(input)
 }
 
-/// 256 calls of 10 milliseconds over 64 lanes, begun while the input is read: many run at once.
+/// 256 calls of 10 milliseconds over 64 lanes, which begin while the input is read: many are running at once.
 #[test]
 fn sixty_four_lanes(rt: HostRuntime) -> Result<(), Fail> {
     let alloc = rt.alloc();

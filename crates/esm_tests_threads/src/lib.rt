@@ -1,5 +1,6 @@
-//! Batchers that are threads, through the top call: two calls that run at once, functions that take their time, a clock
-//! that never stands still, and lines that several threads parse. The crate has nothing but these tests, so that the crate of the top call is proved once.
+//! Tests of batchers as threads, through the top call: calls that overlap, functions that take their time, a clock that
+//! never stands still, and lines that several threads parse. The crate has only these tests, so the crate of the top call
+//! is proved once.
 #![tactic(auto)]
 
 #[cfg(test)]

@@ -1,4 +1,4 @@
-// Lines that several threads parse.
+// A test of lines that several threads parse.
 use crate::clocks::callers;
 use crate::worlds::told_over;
 use esm_io::StepClock;
@@ -9,8 +9,8 @@ use std::test::Fail;
 const STREAM: &str =
     r#"{"EventSourceArn":"arn:aws:kinesis:us-east-1:123456789012:stream/s","FunctionName":"f","StartingPosition":"TRIM_HORIZON","BatchSize":100}"#;
 
-/// 3,000 lines of a shard's records, some 130 bytes each, of which line 2,501 is none: they come in one piece, long enough for
-/// four threads, and the bad line stands in the last thread's block.
+/// 3,000 lines of a shard's records, some 130 bytes each, except line 2,501, which is bad. They arrive in one piece, long
+/// enough for four threads, and the bad line is in the last thread's block.
 fn input(alloc: Global) -> Result<Vec<u8>, Fail> {
     let mut input = Vec::new(alloc);
     for number in 1..3001u32 {
@@ -26,8 +26,8 @@ fn input(alloc: Global) -> Result<Vec<u8>, Fail> {
     Ok(input)
 }
 
-/// Blocks that are parsed side by side are judged in their order: the records before the bad line come, none behind it, and
-/// the line has its number.
+/// Blocks that are parsed side by side are judged in order: the records before the bad line arrive, none behind it does,
+/// and the line is reported with its number.
 #[test]
 fn bad_line_in_the_last_block(rt: HostRuntime) -> Result<(), Fail> {
     let alloc = rt.alloc();

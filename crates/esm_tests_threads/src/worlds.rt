@@ -1,4 +1,4 @@
-// Worlds of devices in memory with a clock and callers of a test's own.
+// Worlds of devices in memory, with a clock and callers that the test chooses.
 ghost use Rattle.std.specs.Prelude.{◌≡◌, [], length, IfOk};
 
 use esm_fixtures::{FRESH, NO_LINES, SPARE, disk};
@@ -9,7 +9,7 @@ use std::alloc::Global;
 use std::sync::Wait;
 use std::thread::Threads;
 
-/// How a command ended: its status, what it told, and the history that it left.
+/// How a command ended: its status, what it printed, and the history that it left.
 #[derive(Drop)]
 pub struct Told {
     pub status: u8,
@@ -50,7 +50,7 @@ fn world<C: Clock + Drop, F: Caller + Drop>(
     })
 }
 
-/// How the command of these words ends over this input, with this clock and these callers.
+/// Runs the command of these words over this input, with this clock and these callers. Returns how it ended.
 pub fn told_over<R: Threads + Wait + Sync, C: Clock + Drop + Sync, F: Caller + Drop + Send>(
     rt: &R,
     alloc: Global,

@@ -3,10 +3,10 @@ use esm_next::{Cut, Limits, SizedItem, Why, cut};
 use std::alloc::Global;
 use std::test::Fail;
 
-/// The bytes that an event's elements and commas may have: 6 MB less `{"Records":[` and `]}`.
+/// How many bytes an event's elements and commas may have: 6,291,456 less those of `{"Records":[` and `]}`.
 const PAYLOAD: u32 = 6_291_442;
 
-/// An item of 801 bytes that came at moment 0.
+/// An item of 801 bytes that arrived at moment 0.
 const ITEM: SizedItem = SizedItem {
     bytes: 801,
     came: 0,
@@ -14,7 +14,7 @@ const ITEM: SizedItem = SizedItem {
     window: 0,
 };
 
-/// The cut where no age is set; `None` where the first item does not fit the payload, or there is none.
+/// The cut without a limit of age; `None` if the first item does not fit the payload, or there is none.
 fn cut_of_any_age(
     items: &[SizedItem],
     count: u32,
@@ -35,7 +35,7 @@ fn cut_of_any_age(
     }
 }
 
-/// The cut of 10,000 items behind the first so many.
+/// The cut of what is left of 10,000 items without the first `first`.
 fn cut_of_rest(alloc: Global, first: usize) -> Result<Option<Cut>, Fail> {
     let items = vec![in alloc; ITEM; 10_000]?;
     let rest = items.as_slice().get(first..).ok_or("no rest")?;
@@ -51,7 +51,7 @@ fn payload_limit(rt: HostRuntime) -> Result<(), Fail> {
     Ok(())
 }
 
-/// So many of two items, whether the input ended, the moment, and how many are cut and why.
+/// How many of two items are there, whether the input ended, the moment, and how many are cut and why.
 const WINDOW: [(usize, bool, u64, u32, Why); 5] = [
     (1, false, 0, 1, Why::Waiting { until: 1_000 }),
     (1, false, 999, 1, Why::Waiting { until: 1_000 }),

@@ -6,7 +6,7 @@ use serde_json::Value;
 use std::alloc::Global;
 use std::test::Fail;
 
-/// The mapping of a stream, of a queue and of a FIFO queue, each without its closing brace.
+/// The mappings of a stream, of a queue and of a FIFO queue, each without its closing brace.
 const STREAM: &str = STREAM_MAPPING;
 
 const QUEUE: &str =
@@ -15,8 +15,8 @@ const QUEUE: &str =
 const FIFO: &str =
     "{\"EventSourceArn\":\"arn:aws:sqs:us-east-1:123456789012:q.fifo\",\"FunctionName\":\"f\"";
 
-/// What follows a mapping's first members, and the field that is refused. Of a name that stands
-/// twice the last value counts.
+/// The beginning of a mapping, what follows it, and the field that is refused. If a name occurs twice, the last value
+/// counts.
 const ROWS: [(&str, &str, Option<Param>); 42] = [
     (STREAM, "", None),
     (QUEUE, "", None),
@@ -217,7 +217,7 @@ fn mapping(alloc: Global, first: &str, more: &str) -> Result<Value, Fail> {
     Ok(Value::from_str(alloc, text.as_str())?)
 }
 
-/// The field that the answer refuses.
+/// The field that the result refuses.
 fn refusal(answer: Result<Config, ConfigError>) -> Result<Option<Param>, Fail> {
     match answer {
         Ok(_) => Ok(None),
@@ -226,13 +226,13 @@ fn refusal(answer: Result<Config, ConfigError>) -> Result<Option<Param>, Fail> {
     }
 }
 
-/// The field that is refused of a mapping.
+/// The field of the mapping that is refused.
 fn refused(alloc: Global, first: &str, more: &str) -> Result<Option<Param>, Fail> {
     let value = mapping(alloc, first, more)?;
     refusal(read(alloc, &value))
 }
 
-/// The field that is refused of an update of the stream's mapping.
+/// The field that is refused in an update of the stream's mapping.
 fn refused_update(alloc: Global, update: &str) -> Result<Option<Param>, Fail> {
     let value = Value::from_str(alloc, update)?;
     let old = given(alloc, STREAM)?;

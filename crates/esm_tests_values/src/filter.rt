@@ -182,14 +182,14 @@ fn refusal(alloc: Global, pattern: &str) -> Result<Option<FilterError>, Fail> {
     Ok(Criteria::read(alloc, Kind::Stream, &texts).err())
 }
 
-/// The pattern, what is judged, and whether it passes.
+/// The parts of a row: the pattern, what is judged, and whether it passes.
 fn parts(row: &str) -> Option<(&str, &str, bool)> {
     let (pattern, rest) = row.split_once(" | ")?;
     let (judged, expected) = rest.split_once(" | ")?;
     Some((pattern, judged, expected == "passes"))
 }
 
-/// Whether the record of the row passes or fails as the row tells.
+/// Whether the record of the row passes or fails as the row says.
 fn is_record_judged(alloc: Global, row: &str) -> Result<bool, Fail> {
     let (pattern, data, expected) = parts(row).ok_or("three parts")?;
     Ok(record_passes(alloc, pattern, data)? == expected)
@@ -200,7 +200,7 @@ fn is_message_judged(alloc: Global, row: &str) -> Result<bool, Fail> {
     Ok(message_passes(alloc, pattern, body)? == expected)
 }
 
-/// The text `before`, the piece so often, and `after`.
+/// The text `before`, then the piece `times` times, then `after`.
 fn repeated(
     alloc: Global,
     before: &str,
@@ -216,7 +216,7 @@ fn repeated(
     Ok(chars)
 }
 
-/// Whether `n` of a record passes whose field `deep` nests this many lists.
+/// Whether a pattern for `n` passes a record whose field `deep` nests this many lists.
 fn nested_passes(alloc: Global, depth: u32) -> Result<bool, Fail> {
     let opened = repeated(alloc, "{\"n\":1,\"deep\":", "[", depth, "")?;
     let data = repeated(alloc, opened.as_str(), "]", depth, "}")?;
@@ -239,7 +239,7 @@ fn judged_messages(rt: HostRuntime) -> Result<(), Fail> {
     Ok(())
 }
 
-/// A JSON text may nest 127 deep; deeper data is no JSON, so that an object pattern for it fails.
+/// A JSON text may nest 127 deep; deeper data is not JSON, so an object pattern for it fails.
 #[test]
 fn nested_data(rt: HostRuntime) -> Result<(), Fail> {
     assert!(rt; nested_passes(rt.alloc(), 100)?);
@@ -275,13 +275,13 @@ fn refused_patterns(rt: HostRuntime) -> Result<(), Fail> {
     Ok(())
 }
 
-/// Why a pattern is refused whose text has so many characters of two bytes.
+/// Why a pattern is refused that has `count` characters of two bytes each.
 fn long_refusal(alloc: Global, count: u32) -> Result<Option<FilterError>, Fail> {
     let pattern = repeated(alloc, "{\"a\":[\"", "é", count, "\"]}")?;
     refusal(alloc, pattern.as_str())
 }
 
-/// Characters count, not bytes.
+/// The limit counts characters, not bytes.
 #[test]
 fn long_patterns(rt: HostRuntime) -> Result<(), Fail> {
     let why = PatternError::TooLong;
@@ -315,7 +315,7 @@ fn first_bad_pattern(rt: HostRuntime) -> Result<(), Fail> {
     Ok(())
 }
 
-/// Whether a record and a message pass where there is no pattern.
+/// Whether a record and a message pass if there is no pattern.
 fn pass_all(alloc: Global) -> Result<(bool, bool), Fail> {
     let all = Criteria::read(alloc, Kind::Fifo, &[])
         .ok()

@@ -1,5 +1,5 @@
 //! Worked examples of calls that need no device: mappings, filter patterns, window states, batches and queues. The crate
-//! has nothing but these tests, so that each crate that they call is proved once.
+//! has only these tests, so each crate that they call is proved once.
 #![tactic(auto)]
 
 #[cfg(test)]

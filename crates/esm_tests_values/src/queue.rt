@@ -1,4 +1,4 @@
-// Tests: what a FIFO queue and a standard queue hand out, by calls.
+// Tests of what a FIFO queue and a standard queue return, call by call.
 use esm_fixtures::{message_of, text};
 use esm_model::{Message, OutOfMemory};
 use esm_queue::Queue;
@@ -10,7 +10,7 @@ use std::test::Fail;
 enum Call {
     Receive(u64, u32),
     Peek(u64, u32),
-    /// Of a place that a message has.
+    /// The place has to be that of a message.
     Delete(u32),
     Count(u32),
     First(u32),
@@ -30,7 +30,7 @@ fn message(alloc: Global, number: u32, group: Option<&str>) -> Result<Message, A
     Ok(message)
 }
 
-/// Messages of these groups come at 0, with the ids `0`, `1` and so on.
+/// A queue at which messages of these groups arrived at moment 0, with the ids `0`, `1` and so on.
 fn queue_of(alloc: Global, groups: &[Option<&str>]) -> Result<Queue, OutOfMemory> {
     let fifo = groups.iter().any(|group| group.is_some());
     let mut queue = Queue::new(alloc, fifo, 30000)?;
@@ -84,7 +84,7 @@ fn deleted(queue: &mut Queue, place: u32) -> bool {
     place < queue.len() && queue.delete(place)
 }
 
-/// What the call answers: places each with a blank behind it, or one word.
+/// What the call returns as text: places, each followed by a blank, or one word.
 fn answer(queue: &mut Queue, alloc: Global, call: Call) -> Result<String, OutOfMemory> {
     match call {
         Receive(now, max) => received(queue, alloc, now, max),
@@ -97,7 +97,7 @@ fn answer(queue: &mut Queue, alloc: Global, call: Call) -> Result<String, OutOfM
     }
 }
 
-/// The calls, one after the other, and what each answers.
+/// Makes the calls one after the other. Returns whether each returns what its row says.
 fn answers(queue: &mut Queue, alloc: Global, rows: &[(Call, &str)]) -> Result<bool, OutOfMemory> {
     for (call, wanted) in rows {
         let line = answer(queue, alloc, *call)?;
@@ -108,7 +108,7 @@ fn answers(queue: &mut Queue, alloc: Global, rows: &[(Call, &str)]) -> Result<bo
     Ok(true)
 }
 
-/// Whether the calls of a queue with messages of these groups answer so.
+/// Whether the calls of a queue with messages of these groups return what the rows say.
 fn are_answered(
     alloc: Global,
     groups: &[Option<&str>],
@@ -153,7 +153,7 @@ fn queue_peek(rt: HostRuntime) -> Result<(), Fail> {
     Ok(())
 }
 
-/// A standard queue, where a moment may be earlier than one before it.
+/// A standard queue; a moment may be earlier than the one before it.
 #[test]
 fn standard_receive(rt: HostRuntime) -> Result<(), Fail> {
     let rows = [

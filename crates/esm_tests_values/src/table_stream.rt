@@ -9,8 +9,8 @@ use std::test::Fail;
 const TABLE: &str =
     "{\"EventSourceArn\":\"arn:aws:dynamodb:us-east-1:123456789012:table/t.1/stream/2026-11-29T00:00:00.000\",\"FunctionName\":\"f\",\"StartingPosition\":\"TRIM_HORIZON\"";
 
-/// What follows the mapping's first members, and the field that is refused. Of a name that stands
-/// twice the last value counts.
+/// What follows the mapping's first members, and the field that is refused. If a name occurs twice, the last value
+/// counts.
 const ROWS: [(&str, Option<Param>); 14] = [
     ("", None),
     (
@@ -55,7 +55,7 @@ const ROWS: [(&str, Option<Param>); 14] = [
     (",\"Colour\":\"red\"", Some(Param::Unknown)),
 ];
 
-/// Lengths of a table's name and of a stream's label, and whether they are read.
+/// Lengths of a table's name and of a stream's label, and whether the mapping is accepted.
 const LENGTHS: [(usize, usize, bool); 6] = [
     (3, 1, true),
     (255, 64, true),
@@ -65,7 +65,7 @@ const LENGTHS: [(usize, usize, bool); 6] = [
     (3, 65, false),
 ];
 
-/// Filter patterns as JSON writes them, and the pattern that is kept of each.
+/// Filter patterns as JSON writes them, and the pattern that is kept for each.
 const PATTERNS: [(&str, Option<&str>); 7] = [
     (
         r#"{\"eventName\":[\"INSERT\"]}"#,
@@ -82,7 +82,7 @@ const PATTERNS: [(&str, Option<&str>); 7] = [
     ("", None),
 ];
 
-/// How often a letter stands in a pattern that has ten other characters, and whether it is read.
+/// How often a letter occurs in a pattern that has ten other characters, and whether the mapping is accepted.
 const LONG_PATTERNS: [(&str, usize, bool); 3] = [
     ("x", 4077, true),
     ("é", 4077, true),
@@ -99,13 +99,13 @@ fn judged(alloc: Global, text: &str) -> Result<Result<Config, Param>, Fail> {
     }
 }
 
-/// The same of a mapping with these members too.
+/// The same of the table's mapping with these further members.
 fn judged_with(alloc: Global, more: &str) -> Result<Result<Config, Param>, Fail> {
     let text = format!(in alloc; "{TABLE}{more}}}")?;
     judged(alloc, text.as_str())
 }
 
-/// The field that is refused of a mapping with these members too.
+/// The field that is refused in the table's mapping with these further members.
 fn refused(alloc: Global, more: &str) -> Result<Option<Param>, Fail> {
     match judged_with(alloc, more)? {
         Ok(_) => Ok(None),
@@ -113,7 +113,7 @@ fn refused(alloc: Global, more: &str) -> Result<Option<Param>, Fail> {
     }
 }
 
-/// Whether a name and a label of so many letters are read.
+/// Whether a name and a label of these lengths are accepted.
 fn reads_lengths(alloc: Global, name: usize, label: usize) -> Result<bool, Fail> {
     let name = "a".repeat(alloc, name)?;
     let label = "b".repeat(alloc, label)?;
@@ -123,7 +123,7 @@ fn reads_lengths(alloc: Global, name: usize, label: usize) -> Result<bool, Fail>
     Ok(refused(alloc, more.as_str())?.is_none())
 }
 
-/// The answer for a mapping with this filter pattern.
+/// The result for a mapping with this filter pattern.
 fn judged_pattern(alloc: Global, pattern: &str) -> Result<Result<Config, Param>, Fail> {
     let more = format!(in alloc;
         ",\"FilterCriteria\":{{\"Filters\":[{{\"Pattern\":\"{pattern}\"}}]}}"
@@ -131,7 +131,8 @@ fn judged_pattern(alloc: Global, pattern: &str) -> Result<Result<Config, Param>,
     judged_with(alloc, more.as_str())
 }
 
-/// Whether the mapping with this filter pattern keeps this one, or is refused for its criteria.
+/// Whether the mapping with this filter pattern keeps the expected one, or is refused for its criteria if none is
+/// expected.
 fn keeps(alloc: Global, pattern: &str, expected: Option<&str>) -> Result<bool, Fail> {
     match (judged_pattern(alloc, pattern)?, expected) {
         (Ok(config), Some(kept)) => match config.filters.as_slice() {

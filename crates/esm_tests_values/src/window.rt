@@ -1,4 +1,4 @@
-//! The worked example `state-spans`.
+//! The worked example `state-spans`, and the window of a moment.
 use esm_window::{StateRead, read_state, window_of};
 use std::test::Fail;
 

@@ -1,4 +1,4 @@
--- The elements of a list that are not its first, each behind a comma. Only this crate's proofs cite this.
+-- The elements of a list after its first one, each preceded by a comma. Only this crate's proofs cite this.
 use Rattle.std.specs.Prelude.{ℕ, List, ◌++◌, codes}
 use Rattle.esm_model.specs.Numbers.{decimal}
 

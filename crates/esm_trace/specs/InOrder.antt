@@ -9,8 +9,8 @@ use Rattle.esm_model.specs.Entries.{shards_that_came}
 use Rattle.esm_trace.specs.declared.batchers.Batchers.{Batchers}
 use Rattle.esm_trace.specs.declared.batchers.Batchers.TheVariants.{OfStream, OfQueue}
 
--- the number of the batcher that serves the lane, where these shards came: of a stream the index of its shard among them, times
--- the factor, plus the lane's number; of a queue the lane's number
+-- the number of the batcher that serves the lane, if these shards arrived: for a stream the index of its shard among them,
+-- times the factor, plus the lane's number; for a queue the lane's number
 abbrev pub number_in : Batchers → List ℕ → LaneId → ℕ
 number_in (OfStream factor) shards lane = position_or_len (λ n. n == lane.shard) shards * factor + lane.lane
 number_in OfQueue shards lane = lane.lane
@@ -19,11 +19,11 @@ abbrev pub replies_after : Batchers → List Entry → ℕ → List Reply → En
 replies_after by h k before (Ended lane reply moment) = if number_in by (shards_that_came h) lane == k then before ++ reply ∷ [] else before
 replies_after by h k before _ = before
 
--- the replies to the calls of the batcher, oldest first, as they ended
+-- the replies to the calls of the batcher, oldest first, in the order in which the calls ended
 abbrev pub replies_by : Batchers → List Entry → ℕ → List Reply
 replies_by by [] k = []
 replies_by by (e ∷ h) k = replies_after by h k (replies_by by h k) e
 
--- the lists are the replies to the calls of the batchers, each at its number
+-- each list has the replies to the calls of the batcher with its number
 abbrev pub AreOfBatchers : Batchers → List Entry → List (List Reply) → Type 0
 AreOfBatchers by h lists = (k : ℕ) → k < length lists → slice_index_or lists k [] ≡ replies_by by h k

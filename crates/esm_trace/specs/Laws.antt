@@ -1,4 +1,4 @@
--- The replies that stand in the logs of a run's callers are those of its history. This product's own.
+-- The replies in the logs of a run's callers are those of its history. This product's own.
 use Rattle.std.specs.Prelude.{◌≡◌, ℕ, List, map}
 use Rattle.esm_model.specs.declared.called.Called.{Called}
 use Rattle.esm_model.specs.declared.entry.Entry.{Entry}

@@ -1,5 +1,5 @@
--- The text of a run's history: a line for each entry, the oldest first, each a JSON object without white space that ends with a
--- line feed. This product's own.
+-- The text of a run's history: a line for each entry, oldest first. Each line is a JSON object without white space and ends
+-- with a line feed. This product's own.
 use Rattle.std.specs.Prelude.{ℕ, Bool, List, [], ◌++◌, codes, reverse, Option, Some, None}
 use Rattle.std.specs.List.{flat_map, filter_map, join_by}
 use Rattle.esm_model.specs.Numbers.{decimal}
@@ -16,13 +16,13 @@ use Rattle.esm_model.specs.declared.entry.WindowState.{WindowState}
 use Rattle.esm_model.specs.declared.entry.Entry.{Entry}
 use Rattle.esm_model.specs.declared.entry.Entry.TheVariants.{Came, Began, Ended, Gave, Tried, Closed, Replayed, Shut}
 
--- the members of a line, each behind its comma
+-- the members of a line, each after its comma
 
 -- the moment in milliseconds, and which entry it is
 abbrev pub head_part : List ℕ → ℕ → List ℕ
 head_part word moment = codes "{\"at\":" ++ decimal moment ++ codes ",\"entry\":\"" ++ word ++ codes "\""
 
--- what a source of the kind calls the shard: its id, or `queue`
+-- how a line names a shard: by its id, or as `queue`
 abbrev pub shard_name : Kind → ℕ → List ℕ
 shard_name Stream shard = shard_id shard
 shard_name Standard shard = codes "queue"
@@ -31,7 +31,7 @@ shard_name Fifo shard = codes "queue"
 abbrev pub shard_part : Kind → ℕ → List ℕ
 shard_part kind shard = codes ",\"shard\":\"" ++ shard_name kind shard ++ codes "\""
 
--- the lane's number; of a queue that of the batcher
+-- the lane's number; for a queue that of the batcher
 abbrev pub lane_part : ℕ → List ℕ
 lane_part lane = codes ",\"lane\":" ++ decimal lane
 
@@ -42,25 +42,25 @@ numbers_text numbers = join_by decimal (codes ",") numbers
 abbrev pub places_part : List ℕ → List ℕ
 places_part places = codes ",\"places\":[" ++ numbers_text places ++ codes "]"
 
--- the window of a final call
+-- the start of the window of a final call, in milliseconds
 abbrev pub closing_part : Option ℕ → List ℕ
 closing_part None = []
 closing_part (Some window) = codes ",\"closing\":" ++ decimal window
 
--- an answer: its status, whether it had the error header, and its body
+-- an answer: its status, whether it had the function error, and its body in base64
 abbrev pub answer_part : ℕ → Bool → List ℕ → List ℕ
 answer_part status error body =
     codes ",\"status\":" ++ decimal status
     ++ codes ",\"error\":" ++ truth_text error
     ++ codes ",\"body\":\"" ++ base64_text body ++ codes "\""
 
--- a reply: an answer, the bytes of a garbled one, or that it was lost
+-- a reply: an answer, the bytes of a garbled one in base64, or that it was lost
 abbrev pub reply_part : Reply → List ℕ
 reply_part (Answered status error body) = answer_part status error body
 reply_part (Garbled bytes) = codes ",\"garbled\":\"" ++ base64_text bytes ++ codes "\""
 reply_part Lost = codes ",\"lost\":true"
 
--- the lane that gave a fate; none at arrival
+-- the lane that gave a fate; none if it was given at arrival
 abbrev pub by_part : Option LaneId → List ℕ
 by_part None = []
 by_part (Some lane) = lane_part lane.lane
@@ -74,19 +74,19 @@ fate_word Exhausted = codes "exhausted"
 abbrev pub fate_part : Fate → List ℕ
 fate_part fate = codes ",\"fate\":\"" ++ fate_word fate ++ codes "\""
 
--- the failure line, where there is one
+-- the failure line, if there is one
 abbrev pub line_part : Option (List ℕ) → List ℕ
 line_part None = []
 line_part (Some line) = codes ",\"line\":" ++ quoted line
 
--- the state that a window has from then on, where there is one
+-- the state that a window has from then on, if there is one
 abbrev pub state_part : Option WindowState → List ℕ
 state_part None = []
 state_part (Some state) = codes ",\"window\":" ++ decimal state.window ++ codes ",\"state\":\"" ++ base64_text state.text ++ codes "\""
 
 -- lines
 
--- which entry it is, and whose
+-- which entry it is, and of which lane
 abbrev pub call_part : Kind → List ℕ → LaneId → ℕ → List ℕ
 call_part kind word lane moment = head_part word moment ++ shard_part kind lane.shard ++ lane_part lane.lane
 
@@ -106,7 +106,7 @@ abbrev pub given_part : Kind → Option LaneId → ℕ → List ℕ → Fate →
 given_part kind by shard places fate moment =
     head_part (codes "gave") moment ++ shard_part kind shard ++ by_part by ++ places_part places ++ fate_part fate
 
--- what a fate brought beside
+-- what a fate comes with: a failure line, and the state of a window
 abbrev pub told_part : Option (List ℕ) → Option WindowState → List ℕ
 told_part line state = line_part line ++ state_part state
 
@@ -141,13 +141,13 @@ entry_part kind (Shut moment) = head_part (codes "shut") moment
 unfoldable pub entry_line : Kind → Entry → List ℕ
 entry_line kind e = entry_part kind e ++ codes "}\n"
 
--- the text of a history, whose newest entry stands first
+-- the text of a history (newest entry first)
 unfoldable pub trace_text : Kind → List Entry → List ℕ
 trace_text kind h = flat_map (entry_line kind) (reverse h)
 
 -- replies
 
--- the reply that an entry tells of
+-- the reply in an entry, if it ends a call
 abbrev pub reply_in : Entry → Option Reply
 reply_in (Ended lane reply moment) = Some reply
 reply_in _ = None

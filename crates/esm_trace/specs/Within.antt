@@ -1,5 +1,5 @@
--- Entries that a run can have: numbers within their types, the lane of a fate in the shard of its records, and no shard beyond
--- those of the source. This product's own.
+-- Entries that a run can have: numbers within their types, the lane of a fate in the shard of its records, and no shard that
+-- the source cannot have. This product's own.
 use Rattle.std.specs.Prelude.{◌≡◌, ℕ, ◌<◌, ◌≤◌, ◌^◌, All, IfSome}
 use Rattle.base64.specs.GeneralPurpose.{IsBytes}
 use Rattle.esm_model.specs.declared.limits.TheConstants.{MAX_SHARD}
@@ -32,7 +32,7 @@ pub record IsLaneOf (n : ℕ) (l : LaneId) : Type 0 where
   pub shard : l.shard ≡ n
   pub lane : IsNumber l.lane
 
--- its bytes are bytes, and its status is a number
+-- its bytes are bytes, and its status is a number of 64 bits
 abbrev pub IsReply : Reply → Type 0
 IsReply (Answered status error body) = IsNumber status × IsBytes body
 IsReply (Garbled bytes) = IsBytes bytes
@@ -42,7 +42,7 @@ pub record IsState (state : WindowState) : Type 0 where
   pub window : IsNumber state.window
   pub text : IsBytes state.text
 
--- what the entry has beside its moment
+-- the entry's fields besides its moment
 abbrev pub HasFields : Kind → Entry → Type 0
 HasFields kind (Came shard first count moment) = IsShard kind shard × IsNumber first × IsNumber count
 HasFields kind (Began lane places closing moment) = IsLane kind lane × All IsNumber places × IfSome closing IsNumber

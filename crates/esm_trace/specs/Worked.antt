@@ -1,4 +1,4 @@
--- Worked lines, each as the table of the trace has it: one for each entry and each form of it.
+-- Worked lines of the trace: one for each entry and each form of it.
 use Rattle.std.specs.Prelude.{◌≡◌, false, [], ◌∷◌, codes, Some, None}
 use Rattle.esm_model.specs.declared.config.Kind.TheVariants.{Stream, Standard, Fifo}
 use Rattle.esm_model.specs.declared.lane.LaneId.{LaneId}
@@ -82,7 +82,7 @@ ReplayedLine = entry_line Stream (Replayed 0 (0 ∷ 1 ∷ []) 9)
 abbrev pub ShutLine : Type 0
 ShutLine = entry_line Fifo (Shut 10) ≡ codes "{\"at\":10,\"entry\":\"shut\"}\n"
 
--- the older entry stands first
+-- the older entry is written first
 abbrev pub TwoLines : Type 0
 TwoLines = trace_text Fifo (Shut 10 ∷ Came 0 0 1 9 ∷ [])
     ≡ codes "{\"at\":9,\"entry\":\"came\",\"shard\":\"queue\",\"first\":0,\"count\":1}\n{\"at\":10,\"entry\":\"shut\"}\n"

@@ -1,4 +1,4 @@
-// Which batcher a lane of a run is served by.
+// Which batcher serves a lane of a run.
 ghost use Rattle.std.specs.Prelude.{◌≡◌, ◌==◌, IfSome, OnOk};
 ghost use Rattle.std.specs.List.{position_or_len};
 ghost use Rattle.esm_model.specs.Entries.{shards_after};
@@ -9,14 +9,15 @@ use esm_model::{Entry, LaneId, OutOfMemory};
 /// How the batchers of a run are numbered.
 #[derive(Clone, Copy, Debug, PartialEq, Eq)]
 pub enum Batchers {
-    /// Those of a stream whose shards have so many lanes each: shard after shard, in the order in which they came.
+    /// The batchers of a stream whose shards have `factor` lanes each: shard after shard, in the order in which the shards
+    /// arrived.
     OfStream { factor: u32 },
-    /// Those of a queue: by the lane's number.
+    /// The batchers of a queue: by the lane's number.
     OfQueue,
 }
 
 impl Batchers {
-    /// The number of the lane's batcher, where these shards came; `None` where it is beyond all numbers.
+    /// Returns the number of the lane's batcher, if these shards arrived; `None` if it does not fit into a `usize`.
     pub(crate) fn number(self, shards: &[u64], lane: LaneId) -> Option<usize>
         ensures { IfSome result (λ k. k ≡ number_in self shards.now lane) }
     {
@@ -29,7 +30,8 @@ impl Batchers {
     }
 }
 
-/// The index of the shard among those that came, of which a run has few, or their number.
+/// Returns the index of the shard among those that arrived, or how many these are if it is not among them. A run has few
+/// shards.
 fn index_of(shards: &[u64], shard: u64) -> usize
     ensures { result ≡ position_or_len (λ n. n == shard) shards.now }
 {
@@ -43,7 +45,7 @@ fn index_of(shards: &[u64], shard: u64) -> usize
     index
 }
 
-/// Adds the shard of records that come, where it is new.
+/// Adds the shard of records that arrive, if it is new.
 pub(crate) fn note_shard(shards: &mut Vec<u64>, entry: &Entry) -> Result<(), OutOfMemory>
     ensures { OnOk result (shards.new.items ≡ shards_after shards.old.items entry.now) }
 {

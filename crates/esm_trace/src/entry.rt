@@ -10,9 +10,9 @@ use crate::members::push_head;
 use esm_event::bytes::push_bytes;
 use esm_model::{Entry, Kind, OutOfMemory, Reply};
 
-/// Writes the entry's line behind what stands there: of a history of a mapping whose source is of this kind. `reply` is the
-/// one that an `Ended` tells of, which the entry itself does not hold; of other entries there is none. Each byte is written
-/// once. After an `Err` a part of the line may stand there.
+/// Appends the entry's line. `kind` is that of the mapping's source. `reply` is the reply of an `Ended` entry, which the
+/// entry does not hold itself, and `None` for each other entry. Each byte is written once. After an `Err`, a part of the
+/// line may be there.
 #[tactic(auto, unfolding(crate::specs::Trace::entry_line))]
 pub fn push_entry(
     out: &mut Vec<u8>,
@@ -28,7 +28,7 @@ pub fn push_entry(
     Ok(())
 }
 
-/// The entry's object, but for the closing brace.
+/// Appends the entry's object without its closing brace.
 fn push_object(
     out: &mut Vec<u8>,
     kind: Kind,

@@ -1,4 +1,4 @@
-// The objects of the entries of each kind, but for their closing braces.
+// The object of each kind of entry, without its closing brace.
 ghost use Rattle.std.specs.Prelude.{◌≡◌, ◌++◌, OnOk};
 ghost use Rattle.esm_trace.specs.Trace.{call_part, came_part, began_part, ended_part, given_part, told_part, gave_part, tried_part, closed_part, replayed_part};
 
@@ -8,7 +8,7 @@ use crate::members::{
 };
 use esm_model::{Fate, Kind, LaneId, OutOfMemory, Places, Reply, Text, WindowState};
 
-/// Records came.
+/// Records arrived.
 pub(crate) fn push_came(
     out: &mut Vec<u8>,
     kind: Kind,
@@ -26,7 +26,7 @@ pub(crate) fn push_came(
     Ok(())
 }
 
-/// Which entry it is, and whose.
+/// Which entry it is, and of which lane.
 fn push_call(
     out: &mut Vec<u8>,
     kind: Kind,
@@ -113,7 +113,7 @@ fn push_given(
     Ok(())
 }
 
-/// What a fate brought beside: a failure line, and the window's new state.
+/// What a fate comes with: a failure line, and the window's new state.
 fn push_told(
     out: &mut Vec<u8>,
     line: &Option<Text>,
@@ -145,7 +145,7 @@ pub(crate) fn push_tried(
     Ok(())
 }
 
-/// A tumbling window, its start in milliseconds, was closed.
+/// A tumbling window, named by its start in milliseconds, was closed.
 pub(crate) fn push_closed(
     out: &mut Vec<u8>,
     kind: Kind,
@@ -160,7 +160,7 @@ pub(crate) fn push_closed(
     Ok(())
 }
 
-/// Records' failure was called again.
+/// Records that had been given up were called again, with success.
 pub(crate) fn push_replayed(
     out: &mut Vec<u8>,
     kind: Kind,

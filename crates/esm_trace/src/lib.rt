@@ -1,4 +1,4 @@
-//! The text of a run's history, a line for each entry, the oldest first, which tells all of it.
+//! The text of a run's history: a line for each entry, oldest first. The text determines the history.
 //! It knows entries and replies, and neither books nor devices.
 //! Pure: values in, bytes out. No device, clock or thread.
 #![tactic(auto)]

@@ -13,7 +13,7 @@ use esm_event::json::{push_quoted, push_truth};
 use esm_event::record::{push_base64, push_shard_id};
 use esm_model::{Fate, Kind, LaneId, OutOfMemory, Places, Reply, Text, WindowState};
 
-/// The moment, in milliseconds, and which entry it is.
+/// The moment in milliseconds, and which entry it is.
 pub(crate) fn push_head(out: &mut Vec<u8>, word: &[u8], moment: u64) -> Result<(), OutOfMemory>
     ensures { OnOk result (out.new.items ≡ out.old.items ++ head_part word.now moment) }
 {
@@ -25,7 +25,7 @@ pub(crate) fn push_head(out: &mut Vec<u8>, word: &[u8], moment: u64) -> Result<(
     Ok(())
 }
 
-/// The shard of a source of the kind.
+/// The shard, as the kind of source names it.
 pub(crate) fn push_shard(out: &mut Vec<u8>, kind: Kind, shard: u64) -> Result<(), OutOfMemory>
     ensures { OnOk result (out.new.items ≡ out.old.items ++ shard_part kind shard) }
 {
@@ -51,7 +51,7 @@ pub(crate) fn push_lane(out: &mut Vec<u8>, lane: u32) -> Result<(), OutOfMemory>
     push_number(out, b",\"lane\":", lane as u64)
 }
 
-/// A name with what stands around it, and a number.
+/// A name with the punctuation around it, and a number.
 pub(crate) fn push_number(out: &mut Vec<u8>, name: &[u8], number: u64) -> Result<(), OutOfMemory>
     ensures { OnOk result (out.new.items ≡ out.old.items ++ (name.now ++ decimal number)) }
 {
@@ -60,7 +60,7 @@ pub(crate) fn push_number(out: &mut Vec<u8>, name: &[u8], number: u64) -> Result
     Ok(())
 }
 
-/// The places, between brackets.
+/// The places, in brackets.
 pub(crate) fn push_places(out: &mut Vec<u8>, places: &Places) -> Result<(), OutOfMemory>
     ensures { OnOk result (out.new.items ≡ out.old.items ++ places_part places.now) }
 {
@@ -98,7 +98,7 @@ fn push_following(out: &mut Vec<u8>, place: u32) -> Result<(), OutOfMemory>
     push_number(out, b",", place as u64)
 }
 
-/// The window of a final call, in milliseconds; nothing of another call.
+/// The start of the window of a final call, in milliseconds; nothing for another call.
 pub(crate) fn push_closing(out: &mut Vec<u8>, closing: Option<u64>) -> Result<(), OutOfMemory>
     ensures { OnOk result (out.new.items ≡ out.old.items ++ closing_part closing) }
 {
@@ -108,7 +108,7 @@ pub(crate) fn push_closing(out: &mut Vec<u8>, closing: Option<u64>) -> Result<()
     }
 }
 
-/// What the call came to.
+/// The reply of a call.
 pub(crate) fn push_reply(out: &mut Vec<u8>, reply: &Reply) -> Result<(), OutOfMemory>
     ensures { OnOk result (out.new.items ≡ out.old.items ++ reply_part reply.now) }
 {
@@ -133,7 +133,7 @@ fn push_answer(out: &mut Vec<u8>, status: u16, error: bool, body: &[u8]) -> Resu
     Ok(())
 }
 
-/// A name with what stands around it, the base64 of the bytes, and a quotation mark.
+/// A name with the punctuation around it, the base64 of the bytes, and a quotation mark.
 fn push_encoded(out: &mut Vec<u8>, name: &[u8], bytes: &[u8]) -> Result<(), OutOfMemory>
     ensures { OnOk result (out.new.items ≡ out.old.items ++ (name.now ++ base64_text bytes.now ++ codes "\"")) }
 {
@@ -143,7 +143,7 @@ fn push_encoded(out: &mut Vec<u8>, name: &[u8], bytes: &[u8]) -> Result<(), OutO
     Ok(())
 }
 
-/// The lane that gave a fate; nothing where that was at arrival.
+/// The lane that gave a fate; nothing if it was given at arrival.
 pub(crate) fn push_by(out: &mut Vec<u8>, by: Option<LaneId>) -> Result<(), OutOfMemory>
     ensures { OnOk result (out.new.items ≡ out.old.items ++ by_part by) }
 {
@@ -174,7 +174,7 @@ fn push_fate_word(out: &mut Vec<u8>, fate: Fate) -> Result<(), OutOfMemory>
     }
 }
 
-/// The failure line as a text, where there is one.
+/// The failure line as a JSON string, if there is one.
 pub(crate) fn push_line(out: &mut Vec<u8>, line: &Option<Text>) -> Result<(), OutOfMemory>
     ensures { OnOk result (out.new.items ≡ out.old.items ++ line_part line.now) }
 {
@@ -187,7 +187,7 @@ pub(crate) fn push_line(out: &mut Vec<u8>, line: &Option<Text>) -> Result<(), Ou
     }
 }
 
-/// The window's new state, where there is one.
+/// The window's new state, if there is one.
 pub(crate) fn push_state(out: &mut Vec<u8>, state: &Option<WindowState>) -> Result<(), OutOfMemory>
     ensures { OnOk result (out.new.items ≡ out.old.items ++ state_part state.now) }
 {

@@ -1,4 +1,4 @@
-// The replies of a run, which its callers kept, in the order of its history.
+// Puts the replies that the callers of a run kept into the order of its history.
 ghost use Rattle.std.specs.Prelude.{◌≡◌, ℕ, ◌<◌, ◌∷◌, ◌++◌, [], length, map, reverse, slice_index_or, IfOk, IfSome, OnOk};
 ghost use Rattle.std.specs.Option.{option_to_list};
 ghost use Rattle.esm_trace.specs.InOrder.{AreOfBatchers};
@@ -9,9 +9,9 @@ use crate::batchers::{Batchers, note_shard};
 use esm_model::{Entry, OutOfMemory, Reply};
 use std::alloc::Global;
 
-/// The replies of the history's `Ended` entries, in their order, of those that each batcher's caller got, in the order of its
-/// calls. Linear in the entries; a shard is looked for among those that came, of which a run has few. An end of a batcher past
-/// those whose replies are here, which no run has, is answered as want of memory.
+/// Returns the replies of the history's `Ended` entries, in their order, from those that each batcher's caller kept, in the
+/// order of its calls. Linear in the entries; a shard is searched for among those that arrived, of which a run has few.
+/// `OutOfMemory` if an allocation failed, or if an entry is of a batcher that has no list here, which no run has.
 pub fn in_order(
     alloc: Global,
     batchers: Batchers,
@@ -31,7 +31,7 @@ pub fn in_order(
     Ok(replies)
 }
 
-/// The lists, each with its last reply first.
+/// Turns each list, so that its last reply is first.
 fn newest_first(alloc: Global, kept: Vec<Vec<Reply>>) -> Result<Vec<Vec<Reply>>, OutOfMemory>
     ensures { IfOk result (λ lists. map (λ replies. replies.items) lists.items ≡ map (λ replies. reverse replies.items) kept.items) }
 {
@@ -45,7 +45,7 @@ fn newest_first(alloc: Global, kept: Vec<Vec<Reply>>) -> Result<Vec<Vec<Reply>>,
     Ok(turned)
 }
 
-/// Moves the entry's reply, where it has one, from the list of its batcher behind those that were moved.
+/// Moves the entry's reply, if it has one, from the list of its batcher to the end of `replies`.
 fn move_reply(
     batchers: Batchers,
     shards: &[u64],
@@ -69,7 +69,7 @@ fn move_reply(
     Ok(())
 }
 
-/// Takes the last reply of a list, where there is one.
+/// Takes the last reply of list `k`, if there is one.
 fn take_last(lists: &mut Vec<Vec<Reply>>, k: usize) -> Option<Reply>
     ensures there { IfSome result (λ _. k < length lists.old.items) }
     ensures taken { IfSome result (λ reply. slice_index_or (map (λ list. list.items) lists.old.items) k []

@@ -7,9 +7,9 @@ ghost use Rattle.esm_trace.specs.Trace.{entry_line, trace_text, reply_in, replie
 use crate::entry::push_entry;
 use esm_model::{Entry, Kind, OutOfMemory, Reply};
 
-/// Writes the text of the history, the oldest entry first, behind what stands there: of a mapping whose source is of this
-/// kind. `replies` are those of its `Ended` entries, in their order. Linear in the bytes that are written, each of which is
-/// written once. After an `Err` a part of the text may stand there.
+/// Appends the text of the history (oldest entry first). `kind` is that of the mapping's source, and `replies` are those of
+/// the `Ended` entries, in their order. Linear in the bytes that are written, each once. After an `Err`, a part of the text
+/// may be there.
 #[tactic(auto, unfolding(crate::specs::Trace::trace_text))]
 pub fn push_trace(
     out: &mut Vec<u8>,
@@ -27,7 +27,7 @@ pub fn push_trace(
     Ok(())
 }
 
-/// Whether the entry tells of a reply.
+/// Whether the entry ends a call, and so has a reply.
 fn is_end(entry: &Entry) -> bool
     ensures { result ≡ is_some (reply_in entry.now) }
 {
@@ -37,7 +37,7 @@ fn is_end(entry: &Entry) -> bool
     }
 }
 
-/// Writes the entry's line, where so many replies were told; answers how many are told then.
+/// Appends the entry's line. `told` replies were written before it; returns how many are then.
 fn push_next(
     out: &mut Vec<u8>,
     kind: Kind,

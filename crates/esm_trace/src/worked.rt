@@ -3,7 +3,7 @@ ghost use Rattle.esm_trace.specs.Worked.{CameLine, BeganLine, FinalCall, EndedLi
 ghost use Rattle.esm_trace.specs.Worked.{FailureTold, StateTold, TriedLine, TriedFinalCall, ClosedLine, QueueLine, ReplayedLine, ShutLine};
 ghost use Rattle.esm_trace.specs.Worked.{TwoLines};
 
-/// The lines of the table of the trace, and a text of two.
+/// A line for each entry and each form of it, and a text of two lines.
 pub fn lines()
     ensures came { CameLine }
     ensures began { BeganLine }

@@ -3,7 +3,7 @@ use Rattle.std.specs.Prelude.{◌≡◌, ◌≤◌, [], is_some, vec_capacity, I
 use Rattle.esm_model.specs.declared.limits.TheConstants.{MAX_LANES}
 use Rattle.esm_traced.specs.declared.room.Room.{Room}
 
--- there is room for a recorder over each caller, and where the trace is asked for also for the replies of each
+-- there is room for a recorder over each caller and, if the trace is asked for, for the replies of each
 pub record IsRoom {F : Type 0} (room : Room F) : Type 0 where
   pub recorders : (room.recorders.items ≡ []) × (MAX_LANES ≤ vec_capacity room.recorders)
   pub listed : is_some room.lists ≡ room.trace

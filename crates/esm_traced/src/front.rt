@@ -1,4 +1,4 @@
-// What is told of a run's history before its report.
+// What is printed of a run's history before its report.
 ghost use Rattle.std.specs.Prelude.{◌≡◌, true, map, reverse, IfOk, IfSome};
 ghost use Rattle.esm_trace.specs.InOrder.{AreOfBatchers};
 ghost use Rattle.esm_trace.specs.Trace.{replies_of, trace_text};
@@ -8,7 +8,7 @@ use esm_model::{Entry, Kind, OutOfMemory, Reply};
 use esm_trace::{Batchers, in_order, push_trace};
 use std::alloc::Global;
 
-/// The text of the history, the oldest entry first, of a run whose calls came to these replies, in their order.
+/// Writes the text of a run's history (oldest entry first), whose calls got these replies, in their order.
 fn text_of(
     alloc: Global,
     kind: Kind,
@@ -23,7 +23,7 @@ fn text_of(
     Ok(text)
 }
 
-/// The text of the history of a run whose callers kept these replies each.
+/// Writes the text of a run's history; `lists` has the replies that each caller kept.
 fn text_by(
     alloc: Global,
     kind: Kind,
@@ -38,8 +38,8 @@ fn text_by(
     text_of(alloc, kind, history, &replies)
 }
 
-/// What is told before the report of a run by many callers, which ended, or was stopped: the text of its history where that is
-/// asked for. Where a caller could not keep its replies, memory was wanting.
+/// Writes what is printed before the report of a run by many callers: the text of its history if the run ended and the trace
+/// is asked for, and nothing otherwise. `OutOfMemory` also if a caller had no memory to keep its replies.
 pub(crate) fn front_by(
     alloc: Global,
     trace: bool,

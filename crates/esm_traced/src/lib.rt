@@ -1,7 +1,7 @@
-//! The runs of the crates below with their callers recorded, so that where it is asked for the text of a run's history can be
-//! told before its report. What each run leaves is said of the callers below the recorders, in the words of the run itself.
-//! It knows runs and traces, and neither mappings nor reports. Where no trace is asked for no reply is kept: a run by many callers
-//! takes the room of its recorders besides, and no other memory.
+//! The runs of the crates below with their callers recorded, so that the text of a run's history can be printed before its
+//! report. The contract of each run is that of the run below, and speaks of the callers below the recorders.
+//! It knows runs and traces, and neither mappings nor reports. If no trace is asked for, no reply is kept: all that a run by
+//! many callers then takes in addition is the room for its recorders.
 #![tactic(auto)]
 
 mod front;

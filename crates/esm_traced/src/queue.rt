@@ -26,8 +26,8 @@ use std::alloc::Global;
 use std::sync::Wait;
 use std::thread::Threads;
 
-/// Runs the mapping of a queue over the opened files, the callers recorded in this room, and writes what is told of its
-/// history. `visibility_ms` is in milliseconds.
+/// Runs the mapping of a queue over the opened files, with the callers recorded in this room, and writes what is printed of
+/// its history. `visibility_ms` is in milliseconds.
 pub fn run_queue<
     R: Threads + Wait + Sync,
     S: Source + Send,
@@ -61,7 +61,7 @@ pub fn run_queue<
     ensures read_first { read_first ≡ true → CallsFollowShut (reverse result.run.trace.items) }
     ensures said { result.run.said ≡ files.said }
     ensures as_many { length result.run.callers.items ≡ MAX_LANES }
-    // What is told before its report.
+    // What is printed before its report.
     ensures front { is_ok result.run.end ≡ true → IfOk result.front (λ front. front.items
         ≡ front_text room.trace config.kind (reverse result.run.trace.items)) }
 {

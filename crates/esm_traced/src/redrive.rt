@@ -20,7 +20,7 @@ use std::alloc::Global;
 use std::sync::Wait;
 use std::thread::Threads;
 
-/// A run of a redrive, its caller as the calls left it, and what is told of its history before its report, unless there was no
+/// A run of a redrive, its caller as the calls left it, and what is printed of its history before its report, if there was
 /// memory for it.
 pub struct TracedRedrive<S, D, F> {
     pub run: RedriveRun<S, D>,
@@ -28,8 +28,8 @@ pub struct TracedRedrive<S, D, F> {
     pub front: Result<Vec<u8>, OutOfMemory>,
 }
 
-/// Runs the mapping of a queue over the opened files by the one caller, which is recorded where the trace is asked for, and
-/// writes what is told of its history. `visibility_ms` is in milliseconds.
+/// Runs the mapping of a queue over the opened files by the one caller, which is recorded if the trace is asked for, and
+/// writes what is printed of its history. `visibility_ms` is in milliseconds.
 pub fn run_redrive<R: Threads + Wait + Sync, S: Source, D: Disk, C: Clock, F: Caller>(
     rt: &R,
     alloc: Global,
@@ -57,7 +57,7 @@ pub fn run_redrive<R: Threads + Wait + Sync, S: Source, D: Disk, C: Clock, F: Ca
         input result.run.input result.run.reading.value caller result.caller (reverse result.run.trace.items)
         (record { journal = result.run.journal; spare = result.run.spare; dead = result.run.dead })) }
     ensures said { result.run.said ≡ files.said }
-    // What is told before its report.
+    // What is printed before its report.
     ensures front { is_ok result.run.end ≡ true → IfOk result.front (λ front. front.items ≡ front_text trace config.kind (reverse result.run.trace.items)) }
 {
     log_tells::<F>();

@@ -18,7 +18,7 @@ use std::alloc::Global;
 use std::sync::Wait;
 use std::thread::Threads;
 
-/// A run of a replay, its caller as the calls left it, and what is told of its history before its report, unless there was no
+/// A run of a replay, its caller as the calls left it, and what is printed of its history before its report, if there was
 /// memory for it.
 pub struct TracedReplay<S, D, F> {
     pub run: ReplayRun<S, D>,
@@ -26,8 +26,8 @@ pub struct TracedReplay<S, D, F> {
     pub front: Result<Vec<u8>, OutOfMemory>,
 }
 
-/// Calls the records again that the lines of the failure file name by the one caller, which is recorded where the trace is
-/// asked for, and writes what is told of the run's history.
+/// Calls the records again that the lines of the failure file name, by the one caller, which is recorded if the trace is
+/// asked for, and writes what is printed of the run's history.
 pub fn run_replay<R: Threads + Wait + Sync, S: Source, D: Disk, C: Clock, F: Caller>(
     rt: &R,
     alloc: Global,
@@ -48,7 +48,7 @@ pub fn run_replay<R: Threads + Wait + Sync, S: Source, D: Disk, C: Clock, F: Cal
         config calls files input result.run.input result.run.reading.value caller result.caller (reverse result.run.trace.items) result.run.counts
         (record { journal = result.run.journal; spare = result.run.spare; failures = result.run.failures })) }
     ensures said { result.run.said ≡ files.said }
-    // What is told before its report.
+    // What is printed before its report.
     ensures front { is_ok result.run.end ≡ true → IfOk result.front (λ front. front.items ≡ front_text trace Stream (reverse result.run.trace.items)) }
 {
     log_tells::<F>();

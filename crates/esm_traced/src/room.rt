@@ -8,7 +8,7 @@ use esm_model::{MAX_LANES, OutOfMemory, Reply};
 use esm_recorder::Recorder;
 use std::alloc::Global;
 
-/// Room for the callers of a run while they are recorded, and where its trace is asked for also for the replies of each.
+/// Room for the callers of a run while they are recorded and, if its trace is asked for, for the replies of each.
 pub struct Room<F: Caller> {
     /// Whether the trace is asked for.
     pub trace: bool,
@@ -16,7 +16,7 @@ pub struct Room<F: Caller> {
     pub(crate) lists: Option<Vec<Vec<Reply>>>,
 }
 
-/// Room for the replies of each caller, where the trace is asked for.
+/// Reserves room for the replies of each caller, if the trace is asked for.
 fn lists(alloc: Global, trace: bool) -> Result<Option<Vec<Vec<Reply>>>, OutOfMemory>
     ensures listed { IfOk result (λ lists. is_some lists ≡ trace) }
     ensures room { IfOk result (λ lists. IfSome lists (λ v. (v.items ≡ []) × (MAX_LANES ≤ vec_capacity v))) }
@@ -29,7 +29,7 @@ fn lists(alloc: Global, trace: bool) -> Result<Option<Vec<Vec<Reply>>>, OutOfMem
 }
 
 impl<F: Caller> Room<F> {
-    /// The room for a run whose trace is asked for, or is not.
+    /// Reserves the room for a run; `trace` says whether its trace is asked for. `OutOfMemory` if an allocation failed.
     pub fn new(alloc: Global, trace: bool) -> Result<Room<F>, OutOfMemory>
         ensures room { IfOk result IsRoom }
         ensures asked { IfOk result (λ room. room.trace ≡ trace) }

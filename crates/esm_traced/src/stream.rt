@@ -27,8 +27,8 @@ use std::alloc::Global;
 use std::sync::Wait;
 use std::thread::Threads;
 
-/// Runs the mapping of a stream over the opened files, the callers recorded in this room, and writes what is told of its
-/// history.
+/// Runs the mapping of a stream over the opened files, with the callers recorded in this room, and writes what is printed of
+/// its history.
 pub fn run_stream<
     R: Threads + Wait + Sync,
     S: Source + Send,
@@ -63,7 +63,7 @@ pub fn run_stream<
     ensures read_first { read_first ≡ true → CallsFollowShut (reverse result.run.trace.items) }
     ensures said { result.run.said ≡ files.said }
     ensures as_many { length result.run.callers.items ≡ MAX_LANES }
-    // What is told before its report.
+    // What is printed before its report.
     ensures front { is_ok result.run.end ≡ true → IfOk result.front (λ front. front.items ≡ front_text room.trace Stream (reverse result.run.trace.items)) }
 {
     logs_tell::<F>();

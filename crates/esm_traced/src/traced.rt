@@ -1,4 +1,4 @@
-// A run of a mapping with what is told of its history, and the run over the callers below the recorders.
+// A run of a mapping with what is printed of its history, and the run over the callers below the recorders.
 ghost use Rattle.std.specs.Prelude.{◌≡◌, ◌≤◌, [], None, All, IfSome, is_some, length, map, option_map, vec_capacity, if◌then◌else◌};
 ghost use Rattle.esm_recorder.specs.Recorder.{IsRecorder, all_kept};
 
@@ -7,19 +7,19 @@ use esm_model::{OutOfMemory, Reply};
 use esm_recorder::{Recorder, take_apart};
 use esm_runner::MappingRun;
 
-/// A run of a mapping, and what is told of its history before its report, unless there was no memory for it.
+/// A run of a mapping, and what is printed of its history before its report, if there was memory for it.
 pub struct Traced<S, D, F> {
     pub run: MappingRun<S, D, F>,
     pub front: Result<Vec<u8>, OutOfMemory>,
 }
 
-/// A run, its callers taken out of their recorders, and the replies that each kept, if each did.
+/// A run, its callers taken out of their recorders, and the replies of each, if every one kept its own.
 pub(crate) struct Apart<S, D, F> {
     pub run: MappingRun<S, D, F>,
     pub lists: Option<Vec<Vec<Reply>>>,
 }
 
-/// The run over the callers below, which go back into this vector. Takes no memory.
+/// Takes the callers of the run out of their recorders and puts them into this vector. Takes no memory.
 pub(crate) fn taken_apart<S, D, F: Caller>(
     run: MappingRun<S, D, Recorder<F>>,
     callers: Vec<F>,

@@ -1,5 +1,5 @@
--- What seats know, part by part. A seat has one part; while the seats are dealt, the first has the parts of all that
--- have none yet, and while they are gathered, the last has the parts of all that have come. This product's own.
+-- What seats know, part by part. A seat has one part. While the seats are dealt, the first one has the parts of all that
+-- have none yet; while they are gathered, the last one has the parts of all gathered so far. This product's own.
 use Rattle.std.specs.Prelude.{◌≡◌, ℕ, zero, suc, ◌==◌, ◌⊎◌, if◌then◌else◌, false, List, [], ◌∷◌, Option, None}
 use Rattle.esm_model.specs.declared.book.Change.{Change}
 use Rattle.esm_model.specs.declared.setup.Setup.{Setup}
@@ -8,16 +8,16 @@ use Rattle.esm_model.specs.Kept.{entries_of}
 use Rattle.esm_model.specs.Setup.{no_setup}
 use Rattle.esm_turn.specs.declared.part.Part.{Part}
 
--- the part of the seat n, which has seen the history h, its own entries in it, and the change
+-- the part of seat n, which has seen the history h, with its own entries in it, and the change
 abbrev pub begun_part : (Setup → List Told → Told → ℕ) → Setup → List Told → Option Change → ℕ → Part
 begun_part author setup h change n = record { setup = setup; number = n; seen = h; mine = entries_of (author setup) n h; mark = false; change = change; holds = false }
 
--- those of so many seats, from the seat n on
+-- the parts of `count` seats, from seat n on
 abbrev pub begun_parts : (Setup → List Told → Told → ℕ) → Setup → List Told → Option Change → ℕ → ℕ → List Part
 begun_parts author setup h change n zero = []
 begun_parts author setup h change n (suc count) = begun_part author setup h change n ∷ begun_parts author setup h change (suc n) count
 
--- the parts that are not of the seat n
+-- the parts that are not seat n's
 abbrev pub parts_but : ℕ → List Part → List Part
 parts_but n [] = []
 parts_but n (p ∷ ps) = if p.number == n then parts_but n ps else p ∷ parts_but n ps
@@ -32,11 +32,11 @@ abbrev pub first_of_parts : List Part → List Part
 first_of_parts [] = []
 first_of_parts (p ∷ ps) = p ∷ []
 
--- a part that stands where there is none
+-- a placeholder for a list without a part
 abbrev pub no_part : Part
 no_part = record { setup = no_setup; number = 0; seen = []; mine = []; mark = false; change = None; holds = false }
 
--- the part of a seat, which has one
+-- the part of a seat, which has exactly one
 abbrev pub first_part : List Part → Part
 first_part [] = no_part
 first_part (p ∷ ps) = p

@@ -1,4 +1,4 @@
--- The rule of the turn, and what each step tells. This product's own.
+-- The rule of the turn, and what each step of it says. This product's own.
 use Rattle.std.specs.Prelude.{◌≡◌, ◌≢◌, ℕ, ◌+◌, ◌*◌, ◌<◌, ◌≤◌, if◌then◌else◌, Bool, true, false, List, [], ◌∷◌, ◌++◌, length, Option, None, Some}
 use mathlib.Core.List.{IsPrefix}
 use mathlib.Core.Option.{none, some}
@@ -11,18 +11,18 @@ use Rattle.esm_model.specs.Kept.{Meaning, entries_of, IsLegal, added}
 use Rattle.esm_turn.specs.declared.part.Part.{Part}
 use Rattle.esm_turn.specs.Parts.{Each}
 
--- 1 where a seat has the value; the holder is its number
+-- 1 if a seat has the value; the holder is its number
 abbrev pub out_bit : Option ℕ → ℕ
 out_bit None = 0
 out_bit (Some n) = 1
 
--- 4 times the length of the history, and 2 more where the mark is true, and 1 more where the value is out
+-- 4 times the length of the history, plus 2 if the mark is true, plus 1 if the value is out
 abbrev pub word_of : List Told → Bool → Option ℕ → ℕ
 word_of log mark holder = length log * 4 + (if mark then 2 else 0) + out_bit holder
 
 module _ {T : Type 0} (m : Meaning T) (setup : Setup) where
-  -- What the part p, which stands in the view j, knows fits the history log, the mark, the change and the holder.
-  -- Each number's part stands in one view: view_of says in which.
+  -- What part p, which is in view j, knows fits the history `log`, the mark, the change and the holder. Each number's part
+  -- is in exactly one view, and `view_of` says in which.
   pub record FitsPart (seats : ℕ) (log : List Told) (mark : Bool) (change : Option Change) (holder : Option ℕ) (view_of : ℕ → ℕ) (j : ℕ) (p : Part) : Type 0 where
     pub setup_is : p.setup ≡ setup
     pub seated : p.number < seats
@@ -46,8 +46,8 @@ module _ {T : Type 0} (m : Meaning T) (setup : Setup) where
   IsHomeOrOut seats log mark change None homes = (x : T) × (homes ≡ some (Some x) ∷ []) × IsAt log mark change x
   IsHomeOrOut seats log mark change (Some n) homes = (n < seats) × (homes ≡ none ∷ [])
 
-  -- Between any two steps there are a history, a mark, a change and a holder that the value has and each seat's part fits;
-  -- the word tells them, but for the change
+  -- Between any two steps, the value has a history, a mark, a change and a holder that each seat's part fits; the word
+  -- encodes all of them except the change
   pub record IsKept (seats : ℕ) (s : State (Option T) (List Part)) : Type 0 where
     pub log : List Told
     pub mark : Bool
@@ -78,7 +78,7 @@ module _ {T : Type 0} (m : Meaning T) where
     pub marked : p.mark ≡ true → m.mark x ≡ true
     pub told : p.number ≡ 0 → m.change x ≡ p.change
 
-  -- where the word was the one that was read, the seat has the value; else it is as before
+  -- if the word was the one that was read, the seat has the value; otherwise it is as before
   abbrev pub Took : Step (Option T) → Me (Option T) (List Part) → ℕ → Me (Option T) (List Part) → Type 0
   Took st before n after =
       (n ≡ st.first → (p : Part) → before.0 ≡ p ∷ []

@@ -34,15 +34,15 @@ seat_view at p = record { at = at; setup = p.setup; number = p.number; seen = p.
 abbrev pub part_of : SeatView → Part
 part_of s = record { setup = s.setup; number = s.number; seen = s.seen; mine = s.mine; mark = s.mark; change = s.change; holds = s.holds }
 
--- the slot that the seat has is empty, since its caller has the value
+-- the slot of the seat is empty while its caller has the value
 abbrev pub slot_in_hand : {T : Type 0} → Bool → List (ℕ × Option T)
 slot_in_hand holds = if holds then (0, None) ∷ [] else []
 
--- a seat has one part, and the slot where it holds the value
+-- a seat has one part, and the slot while it holds the value
 abbrev pub IsSeat : {T : Type 0} → Part → Me (Option T) (List Part) → Type 0
 IsSeat p me = me ≡ (p ∷ [], slot_in_hand p.holds)
 
--- the seat k of the turn, which does not have the value
+-- seat k of the turn, which does not have the value
 pub record IsFreeSeat (t : TurnView) (k : ℕ) (s : SeatView) : Type 0 where
   pub at_is : s.at ≡ t.at
   pub setup_is : s.setup ≡ t.setup
@@ -54,7 +54,7 @@ pub record AreAllSeats (t : TurnView) (seats : List SeatView) : Type 0 where
   pub count : length seats ≡ t.seats
   pub each : (k : ℕ) (d : SeatView) → k < length seats → IsFreeSeat t k (slice_index_or seats k d)
 
--- the seat k, which has seen the history h, its own entries in it, and the change
+-- seat k, which has seen the history h, with its own entries in it, and the change
 abbrev pub begun_seat : (Setup → List Told → Told → ℕ) → List Told → Option Change → TurnView → ℕ → SeatView
 begun_seat author h change t k = seat_view t.at (begun_part author t.setup h change k)
 

@@ -1,4 +1,4 @@
--- The lists that the tests hand on: entry `Came n ..` is the seat n's. Only this crate's tests cite this.
+-- The lists that the tests pass on: entry `Came n ..` is the one of seat n. Only this crate's tests cite this.
 use Rattle.std.specs.Prelude.{ℕ, []}
 use Rattle.esm_model.specs.declared.entry.Entry.{Entry}
 use Rattle.esm_model.specs.declared.entry.Entry.TheVariants.{Came}

@@ -1,9 +1,9 @@
-// What one seat of a turn knows, and what a turn is told when it is made.
+// What one seat of a turn knows, and the terms on which a turn is made.
 use esm_model::{Change, Setup, Told};
 use std::collections::LinkedList;
 use std::snapshot::Snapshot;
 
-/// What one seat knows. Only contracts speak of it: no value is made.
+/// What one seat knows. Only contracts speak of it: no value of this type is made.
 pub struct Part {
     pub setup: Setup,
     pub number: u64,
@@ -13,13 +13,13 @@ pub struct Part {
     pub mine: LinkedList<Told>,
     /// Whether it has seen the mark true.
     pub mark: bool,
-    /// The change that the value was told, as the seat saw it last.
+    /// The change that the value has, as the seat saw it last.
     pub change: Option<Change>,
     /// Whether it has the value out.
     pub holds: bool,
 }
 
-/// What a turn is told when it is made: the value, of which no copy is taken, and the number of seats.
+/// The terms on which a turn is made: the value, of which no copy is taken, and the number of seats.
 pub struct Terms<T> {
     pub made: Snapshot<T>,
     pub seats: u64,

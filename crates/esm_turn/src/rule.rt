@@ -1,4 +1,4 @@
-//! The rule that the turn keeps, and what each of its steps tells.
+//! The rule that the turn keeps, and what each of its steps says.
 ghost use Rattle.esm_model.specs.Kept.{meaning};
 
 use crate::part::{Part, Terms};
@@ -7,8 +7,8 @@ use esm_model::Kept;
 use std::collections::LinkedList;
 use std::marker::PhantomData;
 
-/// One word tells the history's length, the mark, and whether the value is out; one slot has the value while it is not.
-/// Only seat 0 tells the value a change, so what that seat saw last is what the value has.
+/// One word has the history's length, the mark, and whether the value is out; one slot has the value while it is not out.
+/// Only seat 0 records a change in the value, so what that seat saw last is what the value has.
 pub struct Rule<T> {
     of: PhantomData<T>,
 }
@@ -22,7 +22,7 @@ impl<T: Kept> TableRule<Option<T>, LinkedList<Part>, Terms<T>> for Rule<T> {
     ghost first = { λ key. begun_parts T.author (T.setup key.made.value) (T.history key.made.value) (T.change key.made.value) 0 key.seats };
 }
 
-/// Takes the value where the word is still the one that was read.
+/// Takes the value if the word is still the one that was read.
 pub(crate) struct Takes<T> {
     of: PhantomData<T>,
 }
@@ -55,7 +55,7 @@ impl Split<LinkedList<Part>> for Deals {
     ghost right = { first_of_parts };
 }
 
-/// Takes in another seat's parts.
+/// Takes the parts of another seat.
 pub(crate) struct Gathers;
 
 impl Join<LinkedList<Part>> for Gathers {

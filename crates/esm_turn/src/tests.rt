@@ -1,4 +1,4 @@
-// Tests: seats that take a log in turn, on two threads and where waiting seats sleep.
+// Tests: seats that take a log in turn, on two threads, and with waiting seats that sleep.
 ghost use Rattle.std.specs.Prelude.{◌≡◌, ℕ, ◌<◌, ◌≤◌, ◌^◌, ◌++◌, [], ◌∷◌, false, length, MatchBool, slice_index_or};
 ghost use Rattle.esm_turn.specs.TestLogs.{entry_of};
 ghost use Rattle.esm_turn.specs.Seats.{IsFreeSeat, SeatView};
@@ -12,7 +12,7 @@ use std::thread;
 use std::thread::Threads;
 use std::time::{Clock, Duration};
 
-/// A list of entries; each tells the seat that added it.
+/// A list of entries, each of which names the seat that added it.
 #[derive(Drop)]
 struct Log {
     entries: Vec<Entry>,
@@ -48,7 +48,7 @@ impl Kept for Log {
 const MOST: usize = 1 << 40;
 
 impl Log {
-    // False where there is no room.
+    // Adds an entry of the seat; false if there is no room.
     fn add(&mut self, seat: u64) -> bool
         ensures { MatchBool result (self.new.entries.items ≡ self.old.entries.items ++ entry_of seat ∷ []) (self.new.entries.items ≡ self.old.entries.items) }
     {
@@ -65,14 +65,14 @@ impl Log {
     }
 }
 
-// How often each seat takes the turn, and how many milliseconds it keeps the value.
+// How often each seat takes the turn, and how long it keeps the value, in milliseconds.
 #[derive(Clone, Copy)]
 struct Turns {
     count: u32,
     held_ms: u64,
 }
 
-// One turn of the seat with this number, which adds an entry.
+// One turn of the seat with this number, in which it adds an entry.
 fn once<R: Wait + Clock>(rt: &R, turn: &Turn<Log>, seat: &mut Seat<Log>, number: u64, held_ms: u64)
     requires at { seat.old.at ≡ turn.now.at }
     requires free { seat.old.holds ≡ false }
@@ -90,7 +90,7 @@ fn once<R: Wait + Clock>(rt: &R, turn: &Turn<Log>, seat: &mut Seat<Log>, number:
     turn.give(seat, Held { value });
 }
 
-// All turns of the seat k.
+// Takes all turns of seat k.
 fn often<R: Wait + Clock>(rt: &R, turn: &Turn<Log>, seat: &mut Seat<Log>, k: usize, turns: Turns)
     requires { IsFreeSeat turn.now k seat.old }
     ensures { IsFreeSeat turn.now k seat.new }
@@ -100,7 +100,7 @@ fn often<R: Wait + Clock>(rt: &R, turn: &Turn<Log>, seat: &mut Seat<Log>, k: usi
     }
 }
 
-// Each seat has its turns in a thread of its own.
+// Takes the turns of all seats, each in a thread of its own.
 fn all_often<R: Threads + Wait + Clock + Sync>(
     rt: &R,
     turn: &Turn<Log>,
@@ -130,7 +130,7 @@ fn empty(alloc: Global) -> Log
     }
 }
 
-// The number of entries after so many seats had their turns.
+// The number of entries after `seats` seats had their turns.
 fn count_of_entries<R: Threads + Wait + Clock + Sync>(
     rt: &R,
     alloc: Global,
@@ -159,7 +159,7 @@ fn two_seats_with_two_threads(rt: HostRuntime) -> Result<(), Fail> {
     Ok(())
 }
 
-// A seat that waits is soon out of patience, so all but the one that has the value sleep, and each is woken three times.
+// A seat that waits soon sleeps. So all seats but the one that has the value sleep, and each is woken three times.
 #[test]
 fn sleeping_seats_are_woken(rt: HostRuntime) -> Result<(), Fail> {
     let turns = Turns {

@@ -21,9 +21,9 @@ use std::sync::atomic::{AtomicU32, Ordering};
 
 /// A value that one seat at a time has out.
 ///
-/// Whenever the value is at home it has the setup that it was made with, its history is legal and begins with what each
-/// seat has seen, and the entries of each author are those that this author's seat added.
-/// Contracts see which turn it is, the setup and the number of seats.
+/// Whenever the value is at home it has the setup that it was made with, its history is legal and begins with what each seat
+/// has seen, and the entries of each author are those that the author's seat added. Contracts see which turn it is, the
+/// setup and the number of seats.
 pub struct Turn<T: Kept> {
     table: Table<Option<T>, LinkedList<Part>, Terms<T>, Rule<T>, Global>,
     // How many seats sleep or are about to.
@@ -43,8 +43,9 @@ impl<T: Kept> Model for Turn<T> {
 
 /// A thread's place at a turn. It takes no bytes.
 ///
-/// Contracts see the turn that it is of, its number, what it has seen, its own entries, whether it has seen the mark true,
-/// the change as it saw it last, and whether it has the value out. It can't be dropped, so a turn is closed with all its seats.
+/// Contracts see which turn it belongs to, its number, what it has seen, its own entries, whether it has seen the mark true,
+/// the change as it saw it last, and whether it has the value out. It cannot be dropped, so a turn is closed with all its
+/// seats.
 pub struct Seat<T> {
     inner: atomic_table::Seat<Option<T>, LinkedList<Part>>,
 }
@@ -61,7 +62,7 @@ impl<T> Model for Seat<T> {
     ghost invariant = { λ s. IsSeat (first_part s.inner.me.0) s.inner.me };
 }
 
-/// The value while it is out. It can't be dropped, so it goes back by `give` alone.
+/// The value while it is out. It cannot be dropped, so it can only go back by `give`.
 pub struct Held<T> {
     pub value: T,
 }
@@ -108,7 +109,7 @@ fn join_all<T: Kept>(shared: &Board<T>, mut seats: Vec<Seat<T>>) -> Place<T>
     all
 }
 
-// The word that tells of the value at home.
+// The word for the value at home.
 fn word_at_home<T: Kept>(value: &T) -> u64
     ensures { result ≡ word_of (T.history value.now) (T.mark value.now) None }
 {
@@ -116,8 +117,8 @@ fn word_at_home<T: Kept>(value: &T) -> u64
 }
 
 impl<T: Kept> Turn<T> {
-    /// A turn with this value at home, and its seats: the seat at index `s` has the number `s`, and has seen the history and
-    /// the change that the value has. For want of memory the value comes back.
+    /// Makes a turn with this value at home, and its seats: the seat at index `s` has the number `s`, and has seen the
+    /// history and the change that the value has. If an allocation failed, the value is handed back.
     pub fn new(
         alloc: Global,
         value: T,
@@ -173,7 +174,7 @@ impl<T: Kept> Turn<T> {
         }
     }
 
-    // Takes the value where it is at home.
+    // Takes the value if it is at home.
     fn try_take(&self, seat: &mut Seat<T>) -> Option<Held<T>>
         requires at { seat.old.at ≡ self.now.at }
         requires free { seat.old.holds ≡ false }
@@ -195,9 +196,9 @@ impl<T: Kept> Turn<T> {
         Some(Held { value })
     }
 
-    // Sleeps until a `give` where the value is out; else returns at once. The seat is counted before it looks whether the
-    // value is out, and `give` looks at the count once the value is home: so where a `give` finds no seat counted, this
-    // look comes after it, and finds the value home, or out again by a seat whose `give` is still to come.
+    // Sleeps until a `give` if the value is out; otherwise returns at once. The seat is counted before it checks whether the
+    // value is out, and `give` checks the count after the value is home. So if a `give` finds no seat counted, this check
+    // comes after it, and finds the value home, or out again by a seat whose `give` is still to come.
     fn sleep<R: Wait>(&self, rt: &R) {
         let shared = &self.table.shared;
         self.sleeping.fetch_add(1, Ordering::SeqCst);
@@ -208,8 +209,8 @@ impl<T: Kept> Turn<T> {
         self.sleeping.fetch_sub(1, Ordering::SeqCst);
     }
 
-    /// Takes the value out for this seat, and waits while another seat has it: it backs off, then sleeps until a `give`
-    /// wakes it, so that many waiting seats cost no processor.
+    /// Takes the value out for this seat. While another seat has it, it backs off, and then sleeps until a `give` wakes it,
+    /// so that many waiting seats cost no processor time.
     pub fn take<R: Wait>(&self, rt: &R, seat: &mut Seat<T>) -> Held<T>
         requires at { seat.old.at ≡ self.now.at }
         requires free { seat.old.holds ≡ false }
@@ -235,7 +236,8 @@ impl<T: Kept> Turn<T> {
         unreachable!()
     }
 
-    /// Gives the value back, and wakes one seat where some sleep. Only seat 0 may have told it a change. It takes no memory.
+    /// Gives the value back, and wakes one seat if some sleep. Only seat 0 may have recorded a change in it. Takes no
+    /// memory.
     pub fn give(&self, seat: &mut Seat<T>, held: Held<T>)
         requires at { seat.old.at ≡ self.now.at }
         requires holds { seat.old.holds ≡ true }
@@ -265,7 +267,7 @@ impl<T: Kept> Turn<T> {
         }
     }
 
-    /// The value at the end. It takes no memory.
+    /// Closes the turn with all its seats, and returns the value. Takes no memory.
     pub fn close(self, seats: Vec<Seat<T>>) -> T
         requires all { AreAllSeats self seats.items }
         ensures setup { T.setup result ≡ self.setup }

@@ -10,6 +10,6 @@ use Rattle.esm_verdict.specs.declared.index.Index.{Index}
 abbrev pub finds : Index → List ℕ → Option ℕ
 finds index id = get_by (λ k. slice_cmp nat_cmp id k.now) index.positions
 
--- the index has the first position of each identifier, and of no other text
+-- the index finds the first position of each identifier, and nothing for any other text
 abbrev pub Indexes : List (List ℕ) → Index → Type 0
 Indexes ids index = (id : List ℕ) → finds index id ≡ position (λ i. bytes_eq i id) ids

@@ -1,4 +1,4 @@
--- What the contracts of this crate cite beside the definitions of `esm_model`.
+-- What the contracts of this crate cite in addition to the definitions of `esm_model`.
 use Rattle.std.specs.Prelude.{ℕ, ◌<◌, ◌≤◌, Bool, true, false, ⊤, if◌then◌else◌, not, ◌||◌, ◌==◌}
 use Rattle.esm_model.specs.State.{state_read, IsSpanIn}
 use Rattle.esm_model.specs.declared.config.Config.{Config}
@@ -11,12 +11,12 @@ use Rattle.esm_model.specs.declared.verdict.StateRead.TheVariants.{Empty}
 use Rattle.esm_verdict.specs.declared.stream.Call.{Call}
 use Rattle.esm_verdict.specs.declared.stream.Call.TheVariants.{OfBatch, OfWindow}
 
--- so many records succeeded as a batch of this many can have with some left
+-- where only some records succeeded, they are at least one and not all of the batch
 abbrev pub IsWithin : ℕ → Reading → Type 0
 IsWithin count (UpTo p) = (1 ≤ p) × (p < count)
 IsWithin count _ = ⊤
 
--- the state's bytes lie within the answer's body
+-- the bytes of the state are within the answer's body
 abbrev pub IsStateIn : Reply → StateRead → Type 0
 IsStateIn (Answered status error body) state = IsSpanIn body state
 IsStateIn _ state = ⊤

@@ -1,4 +1,4 @@
-//! The sorted index of a batch's identifiers.
+//! An index of a batch's identifiers, in sorted order.
 ghost use Rattle.std.specs.Prelude.{◌≡◌, ℕ, List, ◌≤◌, length, map, Some, None, if◌then◌else◌, IfOk, OnOk};
 ghost use Rattle.std.specs.Str.{bytes_eq};
 ghost use Rattle.esm_verdict.specs.Indexed.{finds, Indexes};
@@ -7,7 +7,7 @@ use esm_model::{MAX_BATCH, OutOfMemory, Seq, Text};
 use std::alloc::Global;
 use std::collections::BTreeMap;
 
-/// What is identified by a text: a record by its sequence number, a message by its id.
+/// What a text identifies: a record by its sequence number, a message by its id.
 pub trait Identified {
     ghost identifier: { Self → List ℕ };
 
@@ -53,7 +53,7 @@ impl<'a> Index<'a> {
         Ok(())
     }
 
-    /// The index of a batch.
+    /// The index of a batch of at most `MAX_BATCH`.
     pub fn of<T: Identified>(alloc: Global, batch: &'a [T]) -> Result<Index<'a>, OutOfMemory>
         requires { length batch.now ≤ MAX_BATCH }
         ensures { IfOk result (λ index. Indexes (map T.identifier batch.now) index) }
@@ -67,7 +67,7 @@ impl<'a> Index<'a> {
         Ok(index)
     }
 
-    /// The position of the identifier.
+    /// The first position of the identifier, if the batch has it.
     pub fn find(&self, id: &str) -> Option<u32>
         ensures { result ≡ finds self.now id.now }
     {

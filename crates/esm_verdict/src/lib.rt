@@ -1,5 +1,5 @@
-//! The decisions on one call's reply: how a stream's and a queue's reply is read, and the ruling on a batch.
-//! Pure values; what takes memory says when there was none.
+//! The decisions on the reply to one call: how the reply for a stream or a queue is read, and the ruling on the batch. Pure
+//! values; a call that allocates may return `OutOfMemory`.
 #![tactic(auto)]
 
 mod index;

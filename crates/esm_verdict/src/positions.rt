@@ -1,4 +1,4 @@
-//! What the reported positions say of a batch.
+//! What the positions that an answer reports say of a batch.
 ghost use Rattle.std.specs.Prelude.{◌≡◌, ℕ, ◌≤◌, length, Bool, Some, IfOk, filter, min};
 ghost use Rattle.std.specs.List.{fold};
 ghost use Rattle.esm_model.specs.Entries.{holds};
@@ -29,7 +29,7 @@ fn reading_before(position: u32) -> Reading
     }
 }
 
-/// What the positions that a stream's answer reports say of the batch: the least counts.
+/// The reading of a stream's answer that reports these positions: the least counts.
 pub fn least_reading(reported: &[u32]) -> Reading
     ensures { result ≡ least_reading (Some reported.now) }
 {
@@ -53,7 +53,7 @@ fn flags(alloc: Global, reported: &[u32], count: usize) -> Result<Vec<bool>, Out
     Ok(flags)
 }
 
-/// The positions with a flag, rising.
+/// The positions whose flag is set, rising.
 fn flagged(alloc: Global, flags: &[bool]) -> Result<Places, OutOfMemory>
     requires { length flags.now ≤ MAX_BATCH }
     ensures { (test : ℕ → Bool) → AreFlags test (length flags.now) flags.now → IfOk result (λ places. places ≡ filter test (below (length flags.now))) }
@@ -67,7 +67,7 @@ fn flagged(alloc: Global, flags: &[bool]) -> Result<Places, OutOfMemory>
     Ok(Places::from_vec(places))
 }
 
-/// The positions in a batch of `count` messages that are reported, rising, each once.
+/// The reported positions in a batch of `count` messages, rising, each once.
 pub fn failed_positions(
     alloc: Global,
     reported: &[u32],

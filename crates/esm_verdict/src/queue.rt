@@ -1,4 +1,4 @@
-// What a reply says of a batch of a queue's messages: which of them failed.
+// Reading the reply for a batch of a queue: which of its messages failed.
 ghost use Rattle.std.specs.Prelude.{◌≡◌, ◌≤◌, length, Some, [], IfOk};
 ghost use Rattle.serde_json.specs.View.{view};
 ghost use Rattle.esm_model.specs.QueueReading.{queue_reading, queue_item_reading, queue_body_reading};
@@ -18,7 +18,7 @@ fn done(alloc: Global) -> QueueReading
     }
 }
 
-/// What an answer's value says of the batch.
+/// The reading of an answer whose body is this value.
 fn value_reading(alloc: Global, ids: &[Text], value: &Value) -> Result<QueueReading, OutOfMemory>
     requires { length ids.now ≤ MAX_BATCH }
     ensures { IfOk result (λ reading. reading ≡ queue_body_reading ids.now (Some (view value.now))) }
@@ -38,7 +38,7 @@ fn value_reading(alloc: Global, ids: &[Text], value: &Value) -> Result<QueueRead
     }
 }
 
-/// What an answer's body says of the batch, where item failures are reported.
+/// The reading of an answer with this body, where the mapping uses item failures.
 fn item_reading(alloc: Global, ids: &[Text], body: &[u8]) -> Result<QueueReading, OutOfMemory>
     requires { length ids.now ≤ MAX_BATCH }
     ensures { IfOk result (λ reading. reading ≡ queue_item_reading ids.now body.now) }
@@ -52,10 +52,11 @@ fn item_reading(alloc: Global, ids: &[Text], body: &[u8]) -> Result<QueueReading
     }
 }
 
-/// What a reply says of the batch of a queue's messages with these ids, at most `MAX_BATCH`, in their order: the failed
-/// ones by their positions from 0, rising, each once. A status other than 200 counts as not run; an answer that names an
-/// id which is not in the batch, or that is no readable answer, fails the whole batch. (Lambda Developer Guide,
-/// "Implementing partial batch responses" for Amazon SQS.)
+/// Reads the reply for a batch of a queue. `ids` are the message ids of the batch, at most `MAX_BATCH`, in their order. The
+/// failed messages are returned as positions in the batch, counted from 0 and rising, each once. A status other than 200
+/// counts as not run. These fail the whole batch: a lost or garbled reply; the function error; and, if the mapping uses item
+/// failures, an answer that is not readable or that names an id outside the batch. (Lambda Developer Guide, "Implementing
+/// partial batch responses" for Amazon SQS.)
 pub fn read_queue(
     alloc: Global,
     config: &Config,

@@ -10,7 +10,7 @@ use esm_model::{OutOfMemory, Places};
 use serde_json::Value;
 use std::alloc::Global;
 
-/// The failures by the value of `batchItemFailures`.
+/// The failures in the value of `batchItemFailures`; `None` where it is no list.
 fn listed_at(value: Option<&Value>) -> Option<&[Value]>
     ensures { option_map (λ failures. items_view failures.now) result ≡ listed_at (option_map view (option_copied value.entry)) }
 {
@@ -32,14 +32,14 @@ pub fn listed(answer: &Value) -> Option<&[Value]>
     }
 }
 
-/// The position that a failure reports.
+/// The position in the batch that a failure reports, if it reports one.
 fn position_of(index: &Index, failure: &Value) -> Option<u32>
     ensures { (ids : List (List ℕ)) → Indexes ids index.now → result ≡ reported ids (view failure.now) }
 {
     index.find(failure.get("itemIdentifier")?.as_str()?)
 }
 
-/// The positions that the failures report, unless one reports none.
+/// The positions that the failures report; `None` if one of them reports no position of the batch.
 pub fn positions_of(
     alloc: Global,
     index: &Index,

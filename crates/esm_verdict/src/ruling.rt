@@ -5,11 +5,12 @@ ghost use Rattle.esm_verdict.specs.Readings.{IsWithin};
 
 use esm_model::{Config, Reading, Rest, Verdict};
 
-/// The ruling on a batch of `count` records, which failed `tries` times before, by what the reply says of it. For a
-/// window's final call `count` is 0. A failed batch is split after its first `count - count / 2` records where the
-/// mapping bisects, and a split counts no try; without bisecting the batch is given up where one more try is above the
-/// retries, and else called again with one more. (Lambda Developer Guide, error handling for Kinesis. That a call which
-/// was not run counts no try, and where a batch is split, is this product's own.)
+/// Rules on a batch of `count` records, which failed `tries` times before, from what the reply says of it. For a window's
+/// final call `count` is 0. If the mapping bisects, a failed batch of at least two records is split after its first `count -
+/// count / 2` records, the rest after item failures becomes a piece of its own, and a split counts no try. Otherwise the
+/// rest is given up if one more try exceeds the retries, and else is called again with one more try. (Lambda Developer
+/// Guide, error handling for Kinesis. That a call which was not run counts no try, and where a batch is split, is this
+/// product's own.)
 pub fn judge(config: &Config, count: u32, tries: u32, reading: Reading) -> Verdict
     requires { IsWithin count reading }
     ensures { result ≡ ruling config.now count tries reading }
@@ -42,7 +43,7 @@ pub fn judge(config: &Config, count: u32, tries: u32, reading: Reading) -> Verdi
     }
 }
 
-/// What becomes of a batch that failed once more.
+/// The rest of a batch that failed once more, after `tries` failed tries.
 fn after_try(retries: Option<u32>, tries: u32) -> Rest
     ensures { result ≡ after_try retries tries }
 {

@@ -1,4 +1,4 @@
-// What a reply says of a stream's batch, and of the state of its tumbling window.
+// Reading the reply for a stream's batch, and the state that it gives to the tumbling window.
 ghost use Rattle.std.specs.Prelude.{◌≡◌, ◌≤◌, length, Some, IfOk};
 ghost use Rattle.serde_json.specs.View.{view};
 ghost use Rattle.esm_model.specs.Reading.{reading, item_reading, body_reading, is_bad};
@@ -14,16 +14,16 @@ use esm_window::read_state;
 use serde_json::Value;
 use std::alloc::Global;
 
-/// Which call of a function a reply is to.
+/// The kind of call that a reply answers.
 #[derive(Clone, Copy, Debug, PartialEq, Eq)]
 pub enum Call {
-    /// With the records of a batch.
+    /// A call with the records of a batch.
     OfBatch,
-    /// The final one of a tumbling window, without records.
+    /// The final call of a tumbling window, without records.
     OfWindow,
 }
 
-/// What an answer's value says of the batch.
+/// The reading of an answer whose body is this value.
 fn value_reading(alloc: Global, batch: &[Seq], value: &Value) -> Result<Reading, OutOfMemory>
     requires { length batch.now ≤ MAX_BATCH }
     ensures { IfOk result (λ reading. reading ≡ body_reading batch.now (Some (view value.now))) }
@@ -41,7 +41,7 @@ fn value_reading(alloc: Global, batch: &[Seq], value: &Value) -> Result<Reading,
     }
 }
 
-/// What an answer's body says of the batch, where item failures are reported.
+/// The reading of an answer with this body, where the mapping uses item failures.
 fn item_reading(alloc: Global, batch: &[Seq], body: &[u8]) -> Result<Reading, OutOfMemory>
     requires { length batch.now ≤ MAX_BATCH }
     ensures { IfOk result (λ reading. reading ≡ item_reading batch.now body.now) }
@@ -88,12 +88,13 @@ fn is_bad(state: StateRead) -> bool
     }
 }
 
-/// What a reply says of a stream's batch, whose sequence numbers are at most `MAX_BATCH`, in order, and of its window's
-/// state. A status other than 200 counts as not run. The lowest position reported counts; an answer that names a number
-/// which is not in the batch, or that is no readable answer, fails the whole batch, and so does a state that no window
-/// can have; a window's final call takes no item failures. The state is that of an answer with status 200 and no error
-/// where windows are configured, and `Empty` for every other reply and without windows. (Lambda Developer Guide,
-/// "Reporting batch item failures" for Kinesis, and tumbling windows.)
+/// Reads the reply for a stream's batch, and the state that it gives to the window. `batch` has the sequence numbers of the
+/// batch, at most `MAX_BATCH`, in order. A status other than 200 counts as not run. Item failures count if the mapping uses
+/// them, but not for a window's final call; of those reported the least position counts. These fail the whole batch: a lost
+/// or garbled reply; the function error; a state that no window can have; and, where item failures count, an answer that is
+/// not readable or that names a number outside the batch. The state is that of an answer with status 200 and no error where
+/// windows are configured; for any other reply and without windows it is `Empty`. (Lambda Developer Guide, "Reporting batch
+/// item failures" for Kinesis, and tumbling windows.)
 pub fn read_stream(
     alloc: Global,
     config: &Config,

@@ -32,7 +32,7 @@ next in_string space = in_string
 next in_string other = in_string
 next in_escape c = in_string
 
--- the lexeme that begins at a byte before xs
+-- the lexeme that begins at the byte x, which comes before xs
 abbrev pub begin : Mode → Class → ℕ → List ℕ → Option Lexeme
 begin between quote x xs = Some (token (string_token (content plain xs)))
 begin between backslash x xs = Some (token Token.bad)
@@ -58,12 +58,12 @@ abbrev pub put_at : ℕ → Option Lexeme → Placed → Placed
 put_at p None ls = ls
 put_at p (Some l) ls = (p, l) ∷ ls
 
--- the lexemes of a text that goes on at the place in this mode
+-- the lexemes, with their places, of a text that continues at place p in this mode
 unfoldable pub lay : Mode → ℕ → List ℕ → Placed
 lay m p [] = []
 lay m p (x ∷ xs) = put_at p (begin m (class x) x xs) (lay (next m (class x)) (p + 1) xs)
 
--- how many bytes stand before the first of them
+-- the number of bytes before the first lexeme
 abbrev pub gap_before : Option Lexeme → ℕ → ℕ
 gap_before None n = 1 + n
 gap_before (Some l) n = 0
@@ -78,7 +78,7 @@ mode_at m (x ∷ xs) = mode_at (next m (class x)) xs
 
 -- ---- the scan over lexemes
 
--- a byte that the scan takes as it takes the lexeme
+-- a byte that the scan treats as it treats the lexeme
 abbrev pub token_byte : Token → ℕ
 token_byte Token.begin_object = 123
 token_byte Token.end_object = 125
@@ -128,7 +128,7 @@ pub record Bounds : Type 0 where
   pub colon : ℕ
   pub after : ℕ
 
--- these are the places of the lexemes from the brace or comma before the first of the members on
+-- `places` are those of the lexemes from the brace or comma before the first member on
 abbrev pub bounds_at : List ℕ → Members → List Bounds
 bounds_at places no_members = []
 bounds_at places (member k j ms) =
@@ -170,7 +170,7 @@ abbrev pub NoBad : List Token → Type 0
 NoBad [] = ⊤
 NoBad (t ∷ ts) = (is_good t ≡ true) × NoBad ts
 
--- the rest of a word has no quote or backslash
+-- the rest of a word, up to its end, has no quote and no backslash
 abbrev pub clean_byte : Class → Bool → Bool
 clean_byte quote rest = false
 clean_byte backslash rest = false
@@ -188,7 +188,7 @@ InWord in_word b = b ≡ true
 InWord in_string b = ⊤
 InWord in_escape b = ⊤
 
--- ---- the lexemes that tokens come from, just after a value or not
+-- ---- the lexemes from which tokens come, where a value came just before or not
 
 abbrev pub token_lexemes : Token → List Lexeme
 token_lexemes Token.begin_object = token Token.begin_object ∷ []

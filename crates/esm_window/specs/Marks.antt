@@ -13,7 +13,7 @@ part_of variant.Outside = outside
 part_of variant.InText = in_text
 part_of variant.InEscape = in_escape
 
--- the marks of the member that is not at its end yet
+-- the marks of the member whose end was not reached yet
 abbrev pub pending : Marks → List ℕ
 pending Nothing = []
 pending (Opened start) = start ∷ []
@@ -28,7 +28,7 @@ AreBefore place Nothing = ⊤
 AreBefore place (Opened start) = start < place
 AreBefore place (Keyed start colon) = (start < colon) × (colon < place)
 
--- what was found stands before the place
+-- what was found is before the place
 pub record IsBefore (place : ℕ) (scan : Scan) : Type 0 where
   pub marks : AreBefore place scan.marks
   pub found : IfSome scan.found (λ p. (p.0 < p.1) × (p.1 < place))

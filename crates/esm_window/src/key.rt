@@ -7,7 +7,7 @@ use esm_model::{OutOfMemory, parse_json};
 use serde_json::Value;
 use std::alloc::Global;
 
-/// Whether the bytes of a member's key read as `state`, its escapes read too.
+/// Whether the bytes of a member's key, with its escapes, read as `state`.
 pub fn is_state(alloc: Global, key: &[u8]) -> Result<bool, OutOfMemory>
     ensures { IfOk result (λ is. is ≡ is_text (codes "state") (read_json key.now)) }
 {

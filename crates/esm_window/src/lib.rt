@@ -1,5 +1,5 @@
-//! Tumbling windows of a stream: the window of a record, and the state that a function's answer gives to its window.
-//! Pure values; what takes memory says when there was none.
+//! Tumbling windows of a stream: the window of a record, and the state that a function's answer gives to its window. Pure
+//! values; a call that allocates may return `OutOfMemory`.
 #![tactic(auto)]
 
 mod key;

@@ -9,7 +9,7 @@ use crate::part::Part;
 use esm_model::OutOfMemory;
 use std::alloc::Global;
 
-/// The marks of the member that the scan is in: the brace or comma before its key, and the colon after it.
+/// The marks of the member that the scan is in: the place of the brace or comma before its key, and that of its colon.
 #[derive(Clone, Copy)]
 pub enum Marks {
     Nothing,
@@ -17,7 +17,7 @@ pub enum Marks {
     Keyed { start: usize, colon: usize },
 }
 
-/// What a scan has found: the colon and the end of the last member whose key reads as `state`.
+/// The state of a scan, and the colon and the end of the last member so far whose key reads as `state`.
 #[derive(Clone, Copy)]
 pub struct Scan {
     pub marks: Marks,
@@ -25,7 +25,7 @@ pub struct Scan {
 }
 
 impl Scan {
-    /// The scan with the mark at `place`.
+    /// The scan after the mark at `place`.
     fn mark(self, alloc: Global, body: &[u8], place: usize) -> Result<Scan, OutOfMemory>
         requires before { IsBefore place self }
         requires within { place < length body.now }
@@ -59,7 +59,7 @@ impl Scan {
     }
 }
 
-/// The colon and the end of the last member of the outermost object whose key reads as `state`.
+/// The places of the colon and of the end of the last member of the outermost object whose key reads as `state`.
 pub fn last_state(alloc: Global, body: &[u8]) -> Result<Option<(usize, usize)>, OutOfMemory>
     ensures found { IfOk result (λ found. found ≡ last_state body.now (marks outside 0 0 body.now)) }
     ensures within { IfOk result (λ found. IfSome found (λ p. (p.0 < p.1) × (p.1 < length body.now))) }

@@ -1,12 +1,12 @@
-//! Where a byte of a JSON text stands, and the places that part the members of its outermost object.
+//! Where a byte of a JSON text is, and which bytes separate the members of its outermost object.
 ghost use Rattle.std.specs.Prelude.{◌≡◌, ◌+◌, ◌<◌, ◌≤◌, ◌^◌};
 ghost use Rattle.esm_window.specs.Scan.{is_mark, depth_after, part_after, is_space};
 ghost use Rattle.esm_window.specs.Marks.{part_of};
 
-/// Where a byte stands.
+/// Where a byte is.
 #[derive(Clone, Copy)]
 pub enum Part {
-    /// Outside the texts.
+    /// Outside texts.
     Outside,
     /// In a text.
     InText,
@@ -15,7 +15,7 @@ pub enum Part {
 }
 
 impl Part {
-    /// The part that the byte after `byte` stands in.
+    /// The part that the byte after `byte` is in.
     pub fn after(self, byte: u8) -> Part
         ensures { part_of result ≡ part_after (part_of self) byte }
     {
@@ -28,7 +28,7 @@ impl Part {
         }
     }
 
-    /// The brackets that are open after `byte`, where `depth` are open before it.
+    /// The number of open brackets after `byte`, if `depth` are open before it.
     pub fn depth_after(self, depth: usize, byte: u8) -> usize
         requires { depth + 1 < 2 ^ 64 }
         ensures depth { result ≡ depth_after (part_of self) depth byte }
@@ -55,7 +55,7 @@ impl Part {
     }
 }
 
-/// Whether JSON calls the byte white space.
+/// Whether the byte is white space in JSON.
 pub fn is_space(byte: u8) -> bool
     ensures { result ≡ is_space byte }
 {

@@ -1,4 +1,4 @@
-// The window's state in a function's answer, as a span of its bytes.
+// Reading the window's state from a function's answer, as a span of its bytes.
 ghost use Rattle.std.specs.Prelude.{◌≡◌, ◌<◌, ◌≤◌, ◌+◌, length, drop, reverse, take, IfOk, option_map, option_copied, Some};
 ghost use Rattle.std.specs.List.{prefix_len};
 ghost use Rattle.serde_json.specs.View.{view};
@@ -11,7 +11,7 @@ use esm_model::{MAX_DATA, OutOfMemory, StateRead, parse_json};
 use serde_json::Value;
 use std::alloc::Global;
 
-/// How many spaces stand from `start` on.
+/// The number of spaces from `start` on.
 fn spaces_from(text: &[u8], start: usize) -> usize
     requires { start ≤ length text.now }
     ensures within { start + result ≤ length text.now }
@@ -24,7 +24,7 @@ fn spaces_from(text: &[u8], start: usize) -> usize
     at - start
 }
 
-/// How many spaces stand just before `end`.
+/// The number of spaces just before `end`.
 fn spaces_before(text: &[u8], end: usize) -> usize
     requires { end ≤ length text.now }
     ensures within { result ≤ end }
@@ -37,7 +37,8 @@ fn spaces_before(text: &[u8], end: usize) -> usize
     end - at
 }
 
-/// The value between the marks `start` and `end`, without the spaces around it.
+/// The span of the value between the marks `start` and `end`, without the spaces around it; `Bad` if it is longer than
+/// `MAX_DATA` bytes.
 fn span_between(text: &[u8], start: usize, end: usize) -> StateRead
     requires before { start < end }
     requires within { end < length text.now }
@@ -52,7 +53,7 @@ fn span_between(text: &[u8], start: usize, end: usize) -> StateRead
     }
 }
 
-/// The state by the value of the answer's `state`.
+/// The state, from the value of the answer's `state`.
 fn member_state(
     alloc: Global,
     body: &[u8],
@@ -70,7 +71,7 @@ fn member_state(
     }
 }
 
-/// The state by the value that the answer is.
+/// The state, from the value of the whole answer.
 fn value_state(alloc: Global, body: &[u8], value: &Value) -> Result<StateRead, OutOfMemory>
     ensures { IfOk result (λ read. read ≡ body_state body.now (Some (view value.now))) }
 {
@@ -83,10 +84,10 @@ fn value_state(alloc: Global, body: &[u8], value: &Value) -> Result<StateRead, O
     }
 }
 
-/// The state in a function's answer: `Span` has the bytes of the value of the last member `state` of the outermost
-/// object, its key read with its escapes, where that is an object of at most `MAX_DATA` bytes. `Empty` for no bytes,
-/// for `null`, and for an object without `state` or with `null` there; `Bad` for anything else. (Lambda Developer Guide,
-/// tumbling windows.)
+/// Reads the state in a function's answer. `Span` gives the bytes of the value of the last member `state` of the outermost
+/// object, whose key may be written with escapes, if that value is an object of at most `MAX_DATA` bytes. `Empty` is
+/// returned for no bytes, for `null`, and for an object without `state` or with `null` there; `Bad` for anything else.
+/// (Lambda Developer Guide, tumbling windows.)
 pub fn read_state(alloc: Global, body: &[u8]) -> Result<StateRead, OutOfMemory>
     ensures read { IfOk result (λ read. read ≡ state_read body.now) }
     ensures within { IfOk result (λ read. IsSpanIn body.now read) }

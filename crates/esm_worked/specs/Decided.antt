@@ -1,5 +1,6 @@
--- Which histories the rules decide: each call that begins and each record that expires is what `next_for` answers, after
--- each end of a call stands what it calls for, and after records that come those that are filtered. This product's own.
+-- Which histories the rules decide: each call that begins and each record that expires is what `next_for` answers; right
+-- after each end of a call come the entries that it requires; and after the arrival of records those that do not pass the
+-- filter are filtered. This product's own.
 use Rattle.std.specs.Prelude.{◌≡◌, ℕ, ◌==◌, nat_eq, Bool, true, false, ◌&&◌, List, [], ◌∷◌, length, Option, Some, None}
 use Rattle.std.specs.List.{list_all}
 use Rattle.std.specs.Option.{option_eq}
@@ -17,42 +18,42 @@ use Rattle.esm_model.specs.WorkedLegal.{same_entry, is_sorted}
 use Rattle.esm_ingest.specs.Entries.{filtered_at}
 use Rattle.esm_next.specs.Following.{next_for, next_entries}
 
--- the same entries in the same order, of the kinds that a lane may owe
+-- the same entries in the same order, for the kinds that a lane may owe
 abbrev pub same_entries : List Entry → List Entry → Bool
 same_entries [] [] = true
 same_entries (e ∷ es) (f ∷ fs) = same_entry e f && same_entries es fs
 same_entries _ _ = false
 
--- the answer is a call of the lane with these places, and closes this window or none; its event aside
+-- the answer is a call of the lane with these places that closes this window or none; its event is not compared
 abbrev pub is_call_of : LaneId → List ℕ → Option ℕ → Next → Bool
 is_call_of lane places closing (next.Call job) = same_lane job.lane lane && (same_places job.places places && option_eq nat_eq job.closing closing)
 is_call_of lane places closing _ = false
 
--- the answer is that so many records got their fate
+-- the answer is that this many records got their fate
 abbrev pub is_gift_of : ℕ → Next → Bool
 is_gift_of count (next.Gave n) = n == count
 is_gift_of count _ = false
 
--- the lane's batcher is told to make this call
+-- the answer to the lane's batcher is this call
 abbrev pub begins_by_rule : Setting → List Entry → LaneId → List ℕ → Option ℕ → ℕ → Bool
 begins_by_rule s h lane places closing m = is_call_of lane places closing (next_for s h (batcher s h lane) m)
 
--- the lane's batcher is told that so many records expired, which the entry says
+-- the answer to the lane's batcher is that this many records expired, which is the entry
 abbrev pub expires_by_rule : Setting → List Entry → LaneId → ℕ → ℕ → Entry → Bool
 expires_by_rule s h lane count m e =
     is_gift_of count (next_for s h (batcher s h lane) m) && same_entries (next_entries s h (batcher s h lane) m (next.Gave count)) (e ∷ [])
 
--- the entry is that the shard's open records that do not pass the filter get their fate, at the last moment
+-- the entry gives their fate, at the last moment, to the shard's open records that do not pass the filter
 abbrev pub filters_by_rule : Setting → List Entry → ℕ → Entry → Bool
 filters_by_rule s h shard e = same_entries (filtered_at (last_moment h) shard (unsorted s h shard)) (e ∷ [])
 
--- no open record is left that does not pass the filter
+-- each open record passes the filter
 abbrev pub is_filtered : Setting → List Entry → Bool
 is_filtered s h = list_all (is_sorted s h) (shards_that_came h)
 
--- with the entries, oldest first, that stand after the history and bring what the end of a call calls for: right after
--- an `Ended` stand those that it owes, all of them and in their order, and after any other entry none. What is filtered
--- is so before anything else than that records come
+-- the history is decided, given the entries, oldest first, that come after it and pay what the end of a call requires. Right
+-- after an `Ended` come all entries that it owes, in their order, and after any other entry none. Records are filtered
+-- before anything but the arrival of records happens.
 abbrev pub is_decided_with : Setting → List Entry → List Entry → Bool
 is_decided_with s paid [] = same_entries paid []
 is_decided_with s paid (Came shard first count moment ∷ h) = same_entries paid [] && is_decided_with s [] h
@@ -71,7 +72,7 @@ is_decided_with s paid (Closed lane window moment ∷ h) = is_decided_with s (Cl
 is_decided_with s paid (Replayed shard places moment ∷ h) = false
 is_decided_with s paid (Shut moment ∷ h) = same_entries paid [] && (is_filtered s h && is_decided_with s [] h)
 
--- the newest entry first; which records come, what calls answer and when the input ends is given
+-- the history, newest entry first, is decided; which records arrive, what the calls answer and when the input ends is given
 abbrev pub is_decided : Setting → List Entry → Bool
 is_decided s h = is_filtered s h && is_decided_with s [] h
 
@@ -79,6 +80,6 @@ is_decided s h = is_filtered s h && is_decided_with s [] h
 abbrev pub IsDecided : Setting → List Entry → Type 0
 IsDecided s h = is_decided s h ≡ true
 
--- they do not
+-- the rules do not decide the history
 abbrev pub IsUndecided : Setting → List Entry → Type 0
 IsUndecided s h = is_decided s h ≡ false

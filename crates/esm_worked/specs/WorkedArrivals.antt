@@ -1,5 +1,5 @@
--- Worked examples of records that come: which are filtered, and which stand in the stream with another sequence number
--- than the journal kept of their place.
+-- Worked examples of records that arrive: which are filtered, and which have another sequence number than the journal kept
+-- for their place.
 use Rattle.std.specs.Prelude.{◌≡◌, List, [], ◌∷◌, ℕ, codes, Option, Some, None}
 use Rattle.esm_model.specs.declared.book.Change.{Change}
 use Rattle.esm_model.specs.declared.entry.Entry.{Entry}
@@ -11,7 +11,7 @@ use Rattle.esm_model.specs.WorkedRetries.{tried_twice}
 use Rattle.esm_ingest.specs.Changes.{first_change}
 use Rattle.esm_ingest.specs.Entries.{with_entries, arrival_entries}
 
--- the records of shard 0 come at 0, and the input ends
+-- the records of shard 0 arrive at 0, and the input ends
 abbrev pub all_arrived : Setting → List Entry
 all_arrived s = Shut 0 ∷ with_entries [] (arrival_entries s [] (records_of s 0) 0)
 
@@ -21,15 +21,15 @@ pub record FilteredData : Type 0 where
   pub passing : all_arrived (filtering on_data (codes "{\"n\":1}")) ≡ all_came 1 0
   pub by_key : all_arrived (filtering on_key (codes "Hello")) ≡ all_came 1 0
 
--- what is found of one record of shard 0 with the sequence number, which comes first
+-- the change that is found when one record of shard 0 with this sequence number arrives first
 abbrev pub change_by : Setting → List ℕ → Option Change
 change_by s seq = first_change s [] (record_with seq 0 ∷ [])
 
--- at the first place stood the record `1`, and a record `7` comes
+-- the journal kept the record `1` at the first place, and a record `7` arrives
 abbrev pub seven_for_one : Change
 seven_for_one = record { shard = 0; place = 0; kept = codes "1"; given = codes "7" }
 
--- `changed-stream`: the journal tells that the record `1` at the first place succeeded
+-- `changed-stream`: the success of the record `1` at the first place was found in the journal
 
 abbrev pub succeeded_before : Setting
 succeeded_before = record (setting_over plain_mapping []) { fates = found_success 0 (codes "1") ∷ [] }
@@ -38,7 +38,7 @@ pub record ChangedStream : Type 0 where
   pub other : change_by succeeded_before (codes "7") ≡ Some seven_for_one
   pub same : change_by succeeded_before (codes "1") ≡ None
 
--- `changed-after-tries`: the journal tells of two tries of the record `1` at the first place
+-- `changed-after-tries`: two tries of the record `1` at the first place were found in the journal
 pub record ChangedAfterTries : Type 0 where
   pub other : change_by tried_twice (codes "7") ≡ Some seven_for_one
   pub same : change_by tried_twice (codes "1") ≡ None

@@ -1,4 +1,5 @@
--- Worked histories that the rules decide, and near ones that they do not: a setting and a history (newest entry first).
+-- Worked histories that the rules decide, and similar ones that they do not: a setting, and a history with its newest entry
+-- first.
 use Rattle.std.specs.Prelude.{ℕ, List, [], ◌∷◌, ◌++◌, codes, replicate, None}
 use Rattle.esm_model.specs.declared.entry.Fate.{Fate}
 use Rattle.esm_model.specs.declared.entry.Fate.TheVariants.{Succeeded, Expired, Exhausted}
@@ -16,22 +17,22 @@ use Rattle.esm_worked.specs.Decided.{IsDecided, IsUndecided}
 
 -- ---- splits
 
--- `bisect-eight`: in seven calls; no batch is one record short, and the later half does not go first
+-- `bisect-eight`: seven calls; no batch omits a record, and the later half is not called first
 pub record BisectEight : Type 0 where
   pub is_decided : IsDecided bisecting after_call_7
   pub short_batch : IsUndecided bisecting (began (0 ∷ 1 ∷ 2 ∷ 3 ∷ 4 ∷ 5 ∷ 6 ∷ []) 0 ∷ all_came 8 0)
   pub later_half : IsUndecided bisecting (began (4 ∷ 5 ∷ 6 ∷ 7 ∷ []) 0 ∷ after_call_1)
 
--- `exhaust-eight`: in one call; not without the line
+-- `exhaust-eight`: one call; the records are not given up without the line
 pub record ExhaustEight : Type 0 where
   pub is_decided : IsDecided exhausting exhausted_history
   pub no_line : IsUndecided exhausting (gave (0 ∷ 1 ∷ 2 ∷ 3 ∷ 4 ∷ 5 ∷ 6 ∷ 7 ∷ []) Exhausted 0 ∷ after_call_1)
 
--- `bisect-item-failures`: in five calls
+-- `bisect-item-failures`: five calls
 abbrev pub BisectItemFailures : Type 0
 BisectItemFailures = IsDecided halving_reports (good_call (2 ∷ 3 ∷ []) 0 (good_call (1 ∷ []) 0 first_given_up))
 
--- `budget-and-restart`: three calls of three, and not a fourth; then five calls of a second run
+-- `budget-and-restart`: three of three calls, and no fourth; then five calls of a second run
 pub record BudgetAndRestart : Type 0 where
   pub first_run : IsDecided bisecting_thrice after_call_3
   pub fourth_call : IsUndecided bisecting_thrice (began (4 ∷ 5 ∷ []) 0 ∷ after_call_3)
@@ -39,7 +40,7 @@ pub record BudgetAndRestart : Type 0 where
 
 -- ---- retries
 
--- `retry-delays`: calls at 0, 250 and 750; none earlier, none before the try is counted, and the record is not given up
+-- `retry-delays`: calls at 0, 250 and 750; none earlier, and none before the try is counted; the record is not given up
 -- while it has retries
 pub record RetryDelays : Type 0 where
   pub is_decided : IsDecided retrying (gave (0 ∷ []) Exhausted 750 ∷ failed_call (0 ∷ []) 750 after_try_2)
@@ -47,7 +48,7 @@ pub record RetryDelays : Type 0 where
   pub no_try : IsUndecided retrying (began (0 ∷ []) 250 ∷ failed_call (0 ∷ []) 0 (all_came 1 0))
   pub given_up : IsUndecided retrying (gave (0 ∷ []) Exhausted 0 ∷ failed_call (0 ∷ []) 0 (all_came 1 0))
 
--- `throttled-call`: again at 250, and no try is counted
+-- `throttled-call`: called again at 250, and no try is counted
 pub record ThrottledCall : Type 0 where
   pub is_decided : IsDecided once (good_call (0 ∷ []) 250 (throttled_call 0 (all_came 1 0)))
   pub counted : IsUndecided once (tried 1 0 ∷ throttled_call 0 (all_came 1 0))
@@ -56,7 +57,7 @@ pub record ThrottledCall : Type 0 where
 abbrev pub DelayLadder : Type 0
 DelayLadder = IsDecided once ladder
 
--- `tries-outlast`: the first run may make two calls, and after both tries the second makes one
+-- `tries-outlast`: the first run may make two calls; after both tries the second run makes one
 
 abbrev pub retrying_twice : Setting
 retrying_twice = record retrying { calls = 2 }
@@ -69,7 +70,7 @@ pub record TriesOutlast : Type 0 where
 
 -- ---- ages
 
--- `record-age`: at 60000 a call, at 60001 it has expired, with its line
+-- `record-age`: at 60000 the record is called; at 60001 it has expired, with its line
 pub record RecordAge : Type 0 where
   pub in_time : IsDecided aging (good_call (0 ∷ []) 60000 (all_came 1 60000))
   pub too_old : IsDecided aging (expired_at 60001 (all_came 1 60001))
@@ -77,14 +78,14 @@ pub record RecordAge : Type 0 where
   pub early_expiry : IsUndecided aging (expired_at 60000 (all_came 1 60000))
   pub no_line : IsUndecided aging (gave (0 ∷ []) Expired 60001 ∷ all_came 1 60001)
 
--- `age-edge`: one expires, the other is called; not before the first has expired
+-- `age-edge`: one record expires, and the other is called, but not before the first has expired
 pub record AgeEdge : Type 0 where
   pub is_decided : IsDecided aging_pair (good_call (1 ∷ []) 60001 (expired_at 60001 (all_came 2 60001)))
   pub call_first : IsUndecided aging_pair (began (1 ∷ []) 60001 ∷ all_came 2 60001)
 
 -- ---- lanes
 
--- `two-lanes`: three calls; the first record is not lane 0's
+-- `two-lanes`: three calls; the first record is not called in lane 0
 pub record TwoLanes : Type 0 where
   pub is_decided : IsDecided in_two_lanes both_done
   pub other_lane : IsUndecided in_two_lanes (began (0 ∷ []) 0 ∷ all_came 2 0)
@@ -95,14 +96,14 @@ pub record TwoLanes : Type 0 where
 abbrev pub OneRecord : Type 0
 OneRecord = IsDecided one_record (good_call (0 ∷ []) 0 (all_came 1 0))
 
--- `batching-window`: at 1000, and not at 999; at once where the batch is full or the input ended
+-- `batching-window`: the call begins at 1000, and not at 999; at once if the batch is full or the input ended
 pub record BatchingWindow : Type 0 where
   pub after_window : IsDecided gathering_one (good_call (0 ∷ []) 1000 (Came 0 0 1 0 ∷ []))
   pub early_batch : IsUndecided gathering_one (began (0 ∷ []) 999 ∷ Came 0 0 1 0 ∷ [])
   pub full : IsDecided gathering_two (good_call (0 ∷ 1 ∷ []) 0 (Came 0 0 2 0 ∷ []))
   pub at_the_end : IsDecided gathering_one (good_call (0 ∷ []) 0 (all_came 1 0))
 
--- `filtered-data`: what does not pass is filtered and not called, and what passes is called and not filtered
+-- `filtered-data`: a record that does not pass is filtered and not called; one that passes is called and not filtered
 pub record FilteredData : Type 0 where
   pub no_json : IsDecided (filtering on_data (codes "Hello")) filtered_history
   pub called : IsUndecided (filtering on_data (codes "Hello")) (good_call (0 ∷ []) 0 (all_came 1 0))
@@ -114,11 +115,11 @@ pub record FilteredData : Type 0 where
 
 -- ---- answers
 
--- `partial-failure`: two calls, the second of the records behind the least position reported
+-- `partial-failure`: two calls; the second has the records from the least position reported on
 abbrev pub PartialFailure : Type 0
 PartialFailure = IsDecided reporting (good_call (3 ∷ 4 ∷ 5 ∷ 6 ∷ 7 ∷ []) 250 after_report)
 
--- `item-failures-counted`: two calls, and the rest is given up; what succeeded comes first
+-- `item-failures-counted`: two calls, and the rest is given up; the success is recorded before the try
 pub record ItemFailuresCounted : Type 0 where
   pub is_decided : IsDecided counting counted_history
   pub other_order : IsUndecided counting (gave (0 ∷ []) Succeeded 0 ∷ Tried lane_0 (1 ∷ 2 ∷ []) None 1 0 ∷ ended reports_second 0 ∷ began (0 ∷ 1 ∷ 2 ∷ []) 0 ∷ all_came 3 0)
@@ -128,7 +129,7 @@ pub record ItemFailuresCounted : Type 0 where
 abbrev pub Leads : List ℕ → Fate → Type 0
 Leads body fate = IsDecided one_reporting (answered body fate)
 
--- `answer-bodies`; no fate but the one
+-- `answer-bodies`; the record gets no other fate
 pub record AnswerBodies : Type 0 where
   pub null_list : Leads (codes "{\"batchItemFailures\":null}") Succeeded
   pub empty_list : Leads (codes "{\"batchItemFailures\":[]}") Succeeded
@@ -152,8 +153,8 @@ pub record HostileBodies : Type 0 where
 
 -- ---- windows
 
--- `tumbling-windows`: four calls; the state is that of the answer, no final call is skipped, nor is it of another window,
--- and each closes its window
+-- `tumbling-windows`: four calls; the state is that of the answer, no final call is skipped or made for another window, and
+-- each closes its window
 pub record TumblingWindows : Type 0 where
   pub is_decided : IsDecided windowed windows_history
   pub skipped_final_call : IsUndecided windowed (began (2 ∷ []) 120000 ∷ first_call three_came)

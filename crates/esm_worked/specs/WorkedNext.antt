@@ -1,4 +1,4 @@
--- Worked examples of what a batcher of a stream does next: a setting, a history (newest entry first) and the answer.
+-- Worked examples of what a batcher of a stream does next: a setting, a history with its newest entry first, and the answer.
 use Rattle.std.specs.Prelude.{◌≡◌, ℕ, ◌+◌, ◌<◌, ◌≤◌, true, List, [], ◌∷◌, codes, Some, None}
 use Rattle.esm_model.specs.declared.moment.TheConstants.{MAX_MOMENT}
 use Rattle.esm_model.specs.declared.book.Next.TheVariants as next
@@ -20,7 +20,7 @@ use Rattle.esm_worked.specs.WorkedHistories.{retrying_twice}
 abbrev pub OneRecordIsCalled : Type 0
 OneRecordIsCalled = next_for one_record (all_came 1 0) 0 0 ≡ next.Call (record { lane = lane_0; places = 0 ∷ []; closing = None; event = one_record_event })
 
--- `two-lanes`: each batcher gets its lane's call, while the other's runs
+-- `two-lanes`: each batcher gets its lane's call, while the other lane's call runs
 
 abbrev pub first_begun : List Entry
 first_begun = Began lane_1 (0 ∷ []) None 0 ∷ all_came 2 0
@@ -37,7 +37,7 @@ pub record FinalCallIsFirst : Type 0 where
 
 -- ---- pauses
 
--- `batching-window`: a record that came at 0 waits until its window is over
+-- `batching-window`: a record that arrived at 0 waits until its batching window is over
 
 abbrev pub one_came : List Entry
 one_came = Came 0 0 1 0 ∷ []
@@ -51,7 +51,7 @@ pub record LaneWaits : Type 0 where
   pub first : (m : ℕ) → m < 250 → next_for retrying after_try_1 0 m ≡ next.Idle 250
   pub second : (m : ℕ) → m < 750 → next_for retrying after_try_2 0 m ≡ next.Idle 750
 
--- no shard of the batcher's came, or its lane has no open record
+-- no shard of the batcher arrived, or its lane has no open record
 pub record NothingToDo : Type 0 where
   pub no_shard : (m : ℕ) → m + 20 ≤ MAX_MOMENT → next_for one_record [] 0 m ≡ next.Idle (m + 20)
   pub no_other_shard : (m : ℕ) → m + 20 ≤ MAX_MOMENT → next_for one_record one_came 1 m ≡ next.Idle (m + 20)
@@ -66,7 +66,7 @@ pub record Finishes : Type 0 where
   pub no_record : (m : ℕ) → next_for one_record (good_call (0 ∷ []) 0 (all_came 1 0)) 0 m ≡ next.Finished
   pub filtered : (m : ℕ) → next_for (filtering on_data (codes "Hello")) filtered_history 0 m ≡ next.Finished
 
--- `budget-and-restart` and `tries-outlast`: records are open, and the first run has made all its calls
+-- `budget-and-restart` and `tries-outlast`: records are open, and the first run has made all calls allowed
 pub record Stops : Type 0 where
   pub three_calls : (m : ℕ) → next_for bisecting_thrice after_call_3 0 m ≡ next.Spent
   pub two_calls : (m : ℕ) → next_for retrying_twice after_try_2 0 m ≡ next.Spent
